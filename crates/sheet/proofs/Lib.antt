@@ -1,0 +1,14 @@
+pub mod Grammar
+pub mod Numbers
+pub mod Laws
+pub mod Tokens
+pub mod Steps
+pub mod Forms
+pub mod Sound
+pub mod Fillings
+pub mod Complete
+pub mod Sheets
+pub mod Spellings
+pub mod Texts
+pub mod Readings
+pub mod Places

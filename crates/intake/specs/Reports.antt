@@ -1,31 +1,53 @@
 -- What the intake finds in a text, and what it prints of that.
-use mathlib.Core.List.{List, [], _∷_, _++_}
+use mathlib.Core.List.{List, _++_}
 use Prim.Native.Nat.{ℕ}
 use lib.Chars.{codes}
-use Rattle.std.specs.Written.{decimal}
+use Rattle.std.specs.Written.{decimal, signed}
 use Rattle.std.specs.declared.result.Result.{Result}
 use Rattle.std.specs.declared.result.Result.the-variants.{Ok, Err}
-use Rattle.refusal.specs.declared.Layer.the-variants.{Text}
+use Rattle.skin.specs.declared.count.Counts.{Counts}
+use Rattle.refusal.specs.declared.Layer.{Layer}
+use Rattle.refusal.specs.declared.Layer.the-variants as layer
+use Rattle.refusal.specs.declared.Refused.{Refused}
 use Rattle.refusal.specs.Lines.{line}
-use Rattle.sheet.specs.declared.fault.TextFault.{TextFault}
-use Rattle.sheet.specs.declared.record.Sizes.{Sizes}
-use Rattle.sheet.specs.Refusals.{refusalOf}
-use Rattle.sheet.specs.Form.{judge}
-use Rattle.sheet.specs.Sheet.{sheet}
-use Rattle.sheet.specs.Read.{sized}
+use Rattle.closing.specs.declared.fault.SkinFault.{SkinFault}
+use Rattle.closing.specs.declared.fault.SkinFault.the-variants.{Text, Face, TooMany, Short, Stray, Twice, Met, Single, Bare, Several, Crowded}
+use Rattle.closing.specs.Refusals.{refusalOf}
+use Rattle.intake.specs.declared.survey.Survey.{Survey}
 use Rattle.intake.specs.declared.report.Report.{Report}
-use Rattle.intake.specs.declared.report.Report.the-variants.{Read, Declined}
+use Rattle.intake.specs.declared.report.Report.the-variants.{Closed, Declined}
+use Rattle.intake.specs.Surveys.{surveyOf}
 
-abbrev pub told : Result Sizes TextFault → Report
-told (Ok sizes) = Read sizes
-told (Err fault) = Declined (record { refusal = refusalOf fault; layer = Text })
+-- a text fault is the text's, any other the skin's
+abbrev pub layerOf : SkinFault → Layer
+layerOf (Text fault) = layer.Text
+layerOf (Face f) = layer.Skin
+layerOf TooMany = layer.Skin
+layerOf (Short n) = layer.Skin
+layerOf (Stray h) = layer.Skin
+layerOf (Twice h) = layer.Skin
+layerOf (Met h) = layer.Skin
+layerOf (Single h) = layer.Skin
+layerOf (Bare v) = layer.Skin
+layerOf (Several v) = layer.Skin
+layerOf (Crowded v) = layer.Skin
 
--- the sizes of the sheet that a text is, or its first wrong token
+abbrev pub refusedBy : SkinFault → Refused
+refusedBy fault = record { refusal = refusalOf fault; layer = layerOf fault }
+
+abbrev pub told : Result Survey SkinFault → Report
+told (Ok found) = Closed found
+told (Err fault) = Declined (refusedBy fault)
+
 abbrev pub reportOf : List ℕ → Report
-reportOf text = told (sized (judge sheet text 0))
+reportOf text = told (surveyOf text)
+
+abbrev pub tallyText : Counts → List ℕ
+tallyText c =
+    codes "vertices " ++ (decimal (c .vertices) ++ (codes "\nedges " ++ (decimal (c .edges) ++ (codes "\nfaces " ++ (decimal (c .faces) ++ codes "\n")))))
 
 abbrev pub reportText : Report → List ℕ
-reportText (Read sizes) =
-    codes "points " ++ (decimal (sizes .points) ++ (codes "\nfaces " ++ (decimal (sizes .faces)
-    ++ (codes "\ncorners " ++ (decimal (sizes .corners) ++ codes "\n")))))
+reportText (Closed found) =
+    codes "darts " ++ (decimal (found .darts) ++ (codes "\n" ++ (tallyText (found .counts)
+    ++ (codes "vertices - edges + faces " ++ (signed (found .figure) ++ codes "\n")))))
 reportText (Declined refused) = line refused

@@ -1,5 +1,7 @@
 // The program intake: reads sheets, judges each and prints what it found.
+mod fault;
 mod report;
+mod survey;
 
 use report::said;
 use std::env;

@@ -22,7 +22,8 @@ use Rattle.std.proofs.shelf.Lists.{drop-drop, drop-at, take-at}
 use Rattle.std.proofs.shelf.Tests.{le-leb, leb-true, and-parts}
 use Rattle.std.proofs.shelf.Decimals.{digits-decimal, decimal-some}
 use Rattle.sheet.specs.declared.fault.TextFault.{TextFault}
-use Rattle.sheet.specs.Number.{InUnits, naturalOf, coordinateOf}
+use Rattle.point.specs.Range.{InRange}
+use Rattle.sheet.specs.Number.{naturalOf, coordinateOf}
 use Rattle.sheet.specs.Token.{plain, front}
 use Rattle.sheet.specs.Form.{Form, gives, token, natural, coordinate, end, judge, then, tokenAt, naturalAt, coordinateAt, endAt, placed, after, times}
 use Rattle.sheet.proofs.Grammar.{Spelled, s-gives, s-token, s-natural, s-coordinate, s-end, Breaks, Mark, Run, Parted, Small}
@@ -79,7 +80,7 @@ digits-plain (d ∷ ds) e =
 pub run-decimal : (n : ℕ) → n < 2 ^ 64 → Run (decimal n)
 run-decimal n h = (decimal-some n h, digits-plain (decimal n) (digits-decimal own n h))
 
-pub run-signed : (z : ℤ) → InUnits z → Run (signed z)
+pub run-signed : (z : ℤ) → InRange z → Run (signed z)
 run-signed (pos n) i = run-decimal n (omega arith)
 run-signed (negsuc n) i = (omega arith, (refl, run-decimal (suc n) (omega arith) .1))
 

@@ -8,7 +8,7 @@ use lib.IntN.{ℤ}
 use lib.ListN.{length, drop}
 use Rattle.std.specs.Written.{decimal, signed}
 use Rattle.std.specs.shelf.Lists.{All}
-use Rattle.sheet.specs.Number.{InUnits}
+use Rattle.point.specs.Range.{InRange}
 use Rattle.sheet.specs.Token.{plain}
 use Rattle.sheet.specs.Form.{Form, gives, token, natural, coordinate, end}
 
@@ -17,7 +17,7 @@ pub data Spelled {A : Type 0} : Form A → A → List ℕ → Type 0 where
   s-gives : {a : A} → Spelled (gives a) a []
   s-token : {w : List ℕ} {f : Form A} {a : A} {bs : List ℕ} → Spelled f a bs → Spelled (token w f) a (w ++ bs)
   s-natural : {low high : ℕ} {k : ℕ → Form A} {a : A} {bs : List ℕ} (n : ℕ) → low ≤ n → n ≤ high → Spelled (k n) a bs → Spelled (natural low high k) a (decimal n ++ bs)
-  s-coordinate : {k : ℤ → Form A} {a : A} {bs : List ℕ} (z : ℤ) → InUnits z → Spelled (k z) a bs → Spelled (coordinate k) a (signed z ++ bs)
+  s-coordinate : {k : ℤ → Form A} {a : A} {bs : List ℕ} (z : ℤ) → InRange z → Spelled (k z) a bs → Spelled (coordinate k) a (signed z ++ bs)
   s-end : {f : Form A} {a : A} → Spelled f a [] → Spelled (end f) a []
 
 -- each limit of the form is one that a u32 holds

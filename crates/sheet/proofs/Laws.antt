@@ -21,7 +21,8 @@ use Rattle.std.proofs.shelf.Numerals.{Numerals, numerals-by-value, tells-allDig
 use Rattle.std.proofs.shelf.Decimals.{decimal-value, digits-decimal, value-decimal, first-decimal, decimal-some, decimal-digit}
 use Rattle.sheet.specs.declared.fault.TextFault.{TextFault}
 use Rattle.sheet.specs.declared.fault.TextFault.the-variants.{Form, Limit}
-use Rattle.sheet.specs.Number.{digitsRead, natural, integer, negated, plain, limited, bounded, naturalOf, coordinateOf, InUnits}
+use Rattle.point.specs.Range.{InRange}
+use Rattle.sheet.specs.Number.{digitsRead, natural, integer, negated, plain, limited, bounded, naturalOf, coordinateOf}
 
 -- the tokens that are taken are the decimal numerals of the numbers in the range, and no others
 pub record Exact {A : Type 0} (In : A → Type 0) (spelling : A → List ℕ) (read : List ℕ → Result A TextFault) : Type 0 where
@@ -29,7 +30,7 @@ pub record Exact {A : Type 0} (In : A → Type 0) (spelling : A → List ℕ) (r
   pub complete : (a : A) → In a → read (spelling a) ≡ Ok a
 
 abbrev pub NumberLaw : Type 0
-NumberLaw = (place : ℕ) → Exact InUnits signed (coordinateOf place) × ((low high : ℕ) → high < 2 ^ 32 - 1 → Exact (λ n. (low ≤ n) × (n ≤ high)) decimal (naturalOf low high place))
+NumberLaw = (place : ℕ) → Exact InRange signed (coordinateOf place) × ((low high : ℕ) → high < 2 ^ 32 - 1 → Exact (λ n. (low ≤ n) × (n ≤ high)) decimal (naturalOf low high place))
 
 pub own : Numerals (λ ds. allDigits ds ≡ true) (value 10)
 own = numerals-by-value (λ ds. allDigits ds ≡ true) tells-allDigits
@@ -110,29 +111,29 @@ natural-exact place low high h = record {
       rw w (limited-of low high place n (i .0) (i .1));
 }
 
-bounded-inv : (place : ℕ) (o : Option ℤ) (z : ℤ) → bounded place o ≡ Ok z → (o ≡ Some z) × InUnits z
+bounded-inv : (place : ℕ) (o : Option ℤ) (z : ℤ) → bounded place o ≡ Ok z → (o ≡ Some z) × InRange z
 bounded-inv place None z e = let z : _≡_ {A = ℕ} 0 1 = cc in absurd (omega arith)
 bounded-inv place (Some (pos m)) z e = go (leb m 16777216) refl e
   where
-    go : (t : Bool) → leb m 16777216 ≡ t → _≡_ {A = Result ℤ TextFault} (cond t (Ok (pos m)) (Err (Limit place))) (Ok z) → (Some (pos m) ≡ Some z) × InUnits z
+    go : (t : Bool) → leb m 16777216 ≡ t → _≡_ {A = Result ℤ TextFault} (cond t (Ok (pos m)) (Err (Limit place))) (Ok z) → (Some (pos m) ≡ Some z) × InRange z
     go true q e = let s : pos m ≡ z = cc in (ap (λ k. Some k) s, rw (← s) (leb-true m 16777216 q))
     go false q e = let z : _≡_ {A = ℕ} 0 1 = cc in absurd (omega arith)
 bounded-inv place (Some (negsuc m)) z e = go (ltb m 16777216) refl e
   where
-    go : (t : Bool) → ltb m 16777216 ≡ t → _≡_ {A = Result ℤ TextFault} (cond t (Ok (negsuc m)) (Err (Limit place))) (Ok z) → (Some (negsuc m) ≡ Some z) × InUnits z
+    go : (t : Bool) → ltb m 16777216 ≡ t → _≡_ {A = Result ℤ TextFault} (cond t (Ok (negsuc m)) (Err (Limit place))) (Ok z) → (Some (negsuc m) ≡ Some z) × InRange z
     go true q e = let s : negsuc m ≡ z = cc in (ap (λ k. Some k) s, rw (← s) (ltb-true m 16777216 q))
     go false q e = let z : _≡_ {A = ℕ} 0 1 = cc in absurd (omega arith)
 
-bounded-of : (place : ℕ) (z : ℤ) → InUnits z → bounded place (Some z) ≡ Ok z
+bounded-of : (place : ℕ) (z : ℤ) → InRange z → bounded place (Some z) ≡ Ok z
 bounded-of place (pos n) i = let a = le-leb n 16777216 i in rw a
 bounded-of place (negsuc n) i = let a = lt-ltb n 16777216 i in rw a
 
 -- what an integer's numeral is made of
-integer-inv : (bs : List ℕ) (z : ℤ) → InUnits z → integer bs ≡ Some z → bs ≡ signed z
+integer-inv : (bs : List ℕ) (z : ℤ) → InRange z → integer bs ≡ Some z → bs ≡ signed z
 integer-inv [] z i e = let z : _≡_ {A = ℕ} 0 1 = cc in absurd (omega arith)
 integer-inv (c ∷ cs) z i e = go (eqb c 45) refl e
   where
-    minus : (o : Option ℕ) → natural cs ≡ o → (z : ℤ) → InUnits z → negated o ≡ Some z → c ≡ 45 → c ∷ cs ≡ signed z
+    minus : (o : Option ℕ) → natural cs ≡ o → (z : ℤ) → InRange z → negated o ≡ Some z → c ≡ 45 → c ∷ cs ≡ signed z
     minus None n z i e q = let z : _≡_ {A = ℕ} 0 1 = cc in absurd (omega arith)
     minus (Some zero) n z i e q = let z : _≡_ {A = ℕ} 0 1 = cc in absurd (omega arith)
     minus (Some (suc m)) n (pos k) i e q = let z : _≡_ {A = ℕ} 0 1 = cc in absurd (omega arith)
@@ -141,7 +142,7 @@ integer-inv (c ∷ cs) z i e = go (eqb c 45) refl e
         let d = decimal-well cs (suc k) (omega arith) (natural-inv cs (suc k) (n ∙ ap (λ j. Some (suc j)) s)) in
         cc
 
-    bare : (o : Option ℕ) → natural (c ∷ cs) ≡ o → (z : ℤ) → InUnits z → plain o ≡ Some z → c ∷ cs ≡ signed z
+    bare : (o : Option ℕ) → natural (c ∷ cs) ≡ o → (z : ℤ) → InRange z → plain o ≡ Some z → c ∷ cs ≡ signed z
     bare None n z i e = let z : _≡_ {A = ℕ} 0 1 = cc in absurd (omega arith)
     bare (Some m) n (negsuc k) i e = let z : _≡_ {A = ℕ} 0 1 = cc in absurd (omega arith)
     bare (Some m) n (pos k) i e =
@@ -161,7 +162,7 @@ integer-of-digits (c ∷ cs) n w =
     let e = natural-of (c ∷ cs) n w in
     rw q (rw e refl)
 
-pub integer-of : (z : ℤ) → InUnits z → integer (signed z) ≡ Some z
+pub integer-of : (z : ℤ) → InRange z → integer (signed z) ≡ Some z
 integer-of (pos n) i = integer-of-digits (decimal n) n (well-decimal n (omega arith))
 integer-of (negsuc n) i =
     let e = natural-of (decimal (suc n)) (suc n) (well-decimal (suc n) (omega arith)) in

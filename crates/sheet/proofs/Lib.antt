@@ -12,3 +12,4 @@ pub mod Spellings
 pub mod Texts
 pub mod Readings
 pub mod Places
+pub mod Jobs

@@ -24,7 +24,8 @@ use Rattle.std.proofs.shelf.Tests.{leb-true, le-leb, eqb-true}
 use Rattle.sheet.specs.declared.fault.TextFault.{TextFault}
 use Rattle.sheet.specs.declared.fault.TextFault.the-variants as fault
 use Rattle.sheet.specs.Number as number
-use Rattle.sheet.specs.Number.{InUnits, naturalOf, coordinateOf, limited, bounded, SameSign, Alike}
+use Rattle.point.specs.Range.{InRange}
+use Rattle.sheet.specs.Number.{naturalOf, coordinateOf, limited, bounded, SameSign, Alike}
 use Rattle.sheet.specs.Token.{plain, front, numeric}
 use Rattle.sheet.specs.Form.{Form, gives, token, natural, coordinate, end, judge, then, tokenAt, naturalAt, coordinateAt, endAt, placed, after, times}
 use Rattle.sheet.proofs.Grammar.{Spelled, s-gives, s-token, s-natural, s-coordinate, s-end, Breaks, Mark, Run, Parted}
@@ -243,7 +244,7 @@ token-inv (s-token {bs = bs} s) = (bs, refl, s)
 natural-inv : {A : Type 0} {low high : ℕ} {k : ℕ → Form A} {a : A} {ys : List ℕ} → Spelled (natural low high k) a ys → (m : ℕ) × (bs : List ℕ) × (low ≤ m) × (m ≤ high) × (ys ≡ decimal m ++ bs) × Spelled (k m) a bs
 natural-inv (s-natural {bs = bs} m l h s) = (m, bs, l, h, refl, s)
 
-coordinate-inv : {A : Type 0} {k : ℤ → Form A} {a : A} {ys : List ℕ} → Spelled (coordinate k) a ys → (z : ℤ) × (bs : List ℕ) × InUnits z × (ys ≡ signed z ++ bs) × Spelled (k z) a bs
+coordinate-inv : {A : Type 0} {k : ℤ → Form A} {a : A} {ys : List ℕ} → Spelled (coordinate k) a ys → (z : ℤ) × (bs : List ℕ) × InRange z × (ys ≡ signed z ++ bs) × Spelled (k z) a bs
 coordinate-inv (s-coordinate {bs = bs} z h s) = (z, bs, h, refl, s)
 
 end-inv : {A : Type 0} {f : Form A} {a : A} {ys : List ℕ} → Spelled (end f) a ys → ys ≡ []
@@ -302,7 +303,7 @@ alike-by : (v w : List ℕ) (a b : ℤ) → number.integer v ≡ Some a → numb
 alike-by v w a b p q h = subst₂ SameSign (sym p) (sym q) h
 
 -- a coordinate in range of the same sign
-like : (v : ℤ) → (z : ℤ) × InUnits z × SameSign (Some z) (Some v)
+like : (v : ℤ) → (z : ℤ) × InRange z × SameSign (Some z) (Some v)
 like (pos n) = (pos 0, omega arith, tt)
 like (negsuc n) = (negsuc 0, omega arith, tt)
 
@@ -311,7 +312,7 @@ natural-taken low high s text p n l h e =
     ap (λ x. then (naturalOf low high p x) (placed (p + length x))) e
     ∙ ap (λ x. then x (placed (p + length (decimal n)))) (number-law p .1 low high s .complete n (l, h))
 
-coordinate-taken : (text : List ℕ) (p : ℕ) (z : ℤ) → InUnits z → front (drop p text) ≡ signed z → coordinateAt text p ≡ Ok (z, p + length (signed z))
+coordinate-taken : (text : List ℕ) (p : ℕ) (z : ℤ) → InRange z → front (drop p text) ≡ signed z → coordinateAt text p ≡ Ok (z, p + length (signed z))
 coordinate-taken text p z i e =
     ap (λ x. then (coordinateOf p x) (placed (p + length x))) e
     ∙ ap (λ x. then x (placed (p + length (signed z)))) (number-law p .0 .complete z i)

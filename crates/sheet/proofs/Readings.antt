@@ -13,7 +13,7 @@ use Rattle.std.proofs.shelf.Lists.{drop-all}
 use Rattle.std.proofs.shelf.Tests.{lt-ltb, le-ltb}
 use Rattle.sheet.specs.declared.fault.TextFault.{TextFault}
 use Rattle.sheet.specs.declared.fault.TextFault.the-variants as fault
-use Rattle.sheet.specs.declared.record.SolidRecord.{SolidRecord}
+use Rattle.point.specs.declared.solid.SolidRecord.{SolidRecord}
 use Rattle.sheet.specs.declared.record.Sizes.{Sizes}
 use Rattle.sheet.specs.declared.record.Layout.{Layout}
 use Rattle.sheet.specs.Form.{Form, gives, token, natural, coordinate, end, judge, after, times, then, placeOf, tokenAt, endAt, line-end}

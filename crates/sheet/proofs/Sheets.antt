@@ -8,7 +8,7 @@ use lib.ListN.{length, length-append}
 use Rattle.std.specs.declared.result.Result.{Result}
 use Rattle.std.specs.declared.result.Result.the-variants.{Ok, Err}
 use Rattle.sheet.specs.declared.fault.TextFault.{TextFault}
-use Rattle.sheet.specs.declared.record.SolidRecord.{SolidRecord}
+use Rattle.point.specs.declared.solid.SolidRecord.{SolidRecord}
 use Rattle.sheet.specs.declared.record.Layout.{Layout}
 use Rattle.sheet.specs.Number.{naturalOf}
 use Rattle.sheet.specs.Token.{front}

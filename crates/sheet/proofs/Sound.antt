@@ -18,7 +18,8 @@ use Rattle.std.proofs.shelf.Sums.{leading-le-length}
 use Rattle.std.proofs.shelf.Tests.{leb-true}
 use Rattle.sheet.specs.declared.fault.TextFault.{TextFault}
 use Rattle.sheet.specs.declared.fault.TextFault.the-variants as fault
-use Rattle.sheet.specs.Number.{InUnits, naturalOf, coordinateOf}
+use Rattle.point.specs.Range.{InRange}
+use Rattle.sheet.specs.Number.{naturalOf, coordinateOf}
 use Rattle.sheet.specs.Token.{plain, front}
 use Rattle.sheet.specs.Form.{Form, gives, token, natural, coordinate, end, judge, then, tokenAt, naturalAt, coordinateAt, endAt, placed}
 use Rattle.sheet.proofs.Grammar.{Spelled, s-gives, s-token, s-natural, s-coordinate, s-end, Small, Reads}

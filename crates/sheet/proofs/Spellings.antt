@@ -10,8 +10,8 @@ use Rattle.std.specs.Joined.{joined}
 use Rattle.std.specs.Written.{decimal, signed}
 use Rattle.std.specs.shelf.Lists.{All}
 use Rattle.std.proofs.shelf.Lists.{nil-from-length}
-use Rattle.sheet.specs.declared.record.SolidRecord.{SolidRecord}
-use Rattle.sheet.specs.Number.{InUnits}
+use Rattle.point.specs.declared.solid.SolidRecord.{SolidRecord}
+use Rattle.point.specs.Range.{InRange}
 use Rattle.sheet.specs.Form.{Form, gives, token, natural, coordinate, end, after, times, blank, line-end}
 use Rattle.sheet.proofs.Grammar.{Spelled, s-gives, s-token, s-natural, s-coordinate, s-end}
 use Rattle.sheet.specs.Sheet.{Sheet, sheet, pointLine, corner, faceLine, header, closingLine, closed, faced, pointText, faceText, sheetText, PointIn, FaceIn, Ranged}

@@ -12,7 +12,8 @@ use Rattle.std.specs.declared.result.Result.{Result}
 use Rattle.std.specs.declared.result.Result.the-variants.{Ok, Err}
 use Rattle.sheet.specs.declared.fault.TextFault.{TextFault}
 use Rattle.sheet.specs.declared.fault.TextFault.the-variants as fault
-use Rattle.sheet.specs.Number.{naturalOf, coordinateOf, InUnits}
+use Rattle.point.specs.Range.{InRange}
+use Rattle.sheet.specs.Number.{naturalOf, coordinateOf}
 use Rattle.sheet.specs.Token.{front}
 
 abbrev pub then : {A B E : Type 0} → Result A E → (A → Result B E) → Result B E

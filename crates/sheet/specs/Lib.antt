@@ -6,3 +6,4 @@ pub mod Fill
 pub mod First
 pub mod Read
 pub mod Refusals
+pub mod Job

@@ -77,8 +77,3 @@ bounded place (Some (negsuc n)) = cond (ltb n 16777216) (Ok (negsuc n)) (Err (Li
 -- a coordinate, in units, of the token at a place
 abbrev pub coordinateOf : ℕ → List ℕ → Result ℤ TextFault
 coordinateOf place bs = bounded place (integer bs)
-
--- from -16,777,216 to 16,777,216
-abbrev pub InUnits : ℤ → Type 0
-InUnits (pos n) = n ≤ 16777216
-InUnits (negsuc n) = n < 16777216

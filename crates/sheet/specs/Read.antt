@@ -9,7 +9,7 @@ use Rattle.std.specs.declared.result.Result.{Result}
 use Rattle.std.specs.declared.result.Result.the-variants.{Ok, Err}
 use Rattle.sheet.specs.declared.fault.TextFault.{TextFault}
 use Rattle.sheet.specs.declared.fault.TextFault.the-variants as fault
-use Rattle.sheet.specs.declared.record.SolidRecord.{SolidRecord}
+use Rattle.point.specs.declared.solid.SolidRecord.{SolidRecord}
 use Rattle.sheet.specs.declared.record.Sizes.{Sizes}
 use Rattle.sheet.specs.declared.record.Layout.{Layout}
 use Rattle.sheet.specs.First.{PastLimit, OffForm}

@@ -8,8 +8,8 @@ use lib.Chars.{codes}
 use Rattle.std.specs.Joined.{joined}
 use Rattle.std.specs.Written.{decimal, signed}
 use Rattle.std.specs.shelf.Lists.{All}
-use Rattle.sheet.specs.declared.record.SolidRecord.{SolidRecord}
-use Rattle.sheet.specs.Number.{InUnits}
+use Rattle.point.specs.declared.solid.SolidRecord.{SolidRecord}
+use Rattle.point.specs.Range.{InRange}
 use Rattle.sheet.specs.Form.{Form, gives, token, natural, coordinate, end, after, times, blank, line-end}
 
 -- points, and faces as the vertex numbers of their corners
@@ -67,7 +67,7 @@ sheetText s =
     (codes "faces" ++ (blank ++ (decimal (length (s .faces)) ++ (line-end ++ (joined faceText (s .faces) ++ (codes "end" ++ line-end))))))))))
 
 abbrev pub PointIn : SolidRecord → Type 0
-PointIn p = InUnits (p .x) × InUnits (p .y) × InUnits (p .z)
+PointIn p = InRange (p .x) × InRange (p .y) × InRange (p .z)
 
 abbrev pub FaceIn : List ℕ → Type 0
 FaceIn vs = (1 ≤ length vs) × (length vs ≤ 64) × All (λ v. v ≤ 1048575) vs

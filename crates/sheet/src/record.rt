@@ -1,12 +1,4 @@
-// What the reader's tables and answers are made of.
-
-// One place of a point table: the numbers of a solid, whatever they are.
-#[derive(Clone, Copy, PartialEq, Eq, Debug)]
-pub struct SolidRecord {
-    pub x: i32,
-    pub y: i32,
-    pub z: i32,
-}
+// What the reader answers.
 
 // How many points, faces and corners a sheet has.
 #[derive(Clone, Copy, PartialEq, Eq, Debug)]
@@ -22,4 +14,12 @@ pub struct Layout {
     pub sizes: Sizes,
     pub points: usize,
     pub faces: usize,
+}
+
+// What a job asks for, and the sizes of its sheet: `levels` times one split and `degree` averages.
+#[derive(Clone, Copy, PartialEq, Eq, Debug)]
+pub struct JobSizes {
+    pub degree: u32,
+    pub levels: u32,
+    pub sizes: Sizes,
 }

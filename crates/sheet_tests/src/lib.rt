@@ -11,9 +11,9 @@ mod tests {
     use sheet::record::Sizes;
     use sheet::record::SizesDebug;
     use sheet::record::SizesPartialEq;
-    use sheet::record::SolidRecord;
-    use sheet::record::SolidRecordDebug;
-    use sheet::record::SolidRecordPartialEq;
+    use point::solid::SolidRecord;
+    use point::solid::SolidRecordDebug;
+    use point::solid::SolidRecordPartialEq;
     use std::test::*;
 
     const OLD: SolidRecord = SolidRecord { x: 7, y: 7, z: 7 };

@@ -1,0 +1,13 @@
+mod Numbering
+mod Turning
+mod Lawful
+mod Heaps
+mod Scans
+mod EdgeOrder
+mod VertexRings
+mod Verdicts
+mod Outcomes
+mod Spreading
+mod Exact
+mod Causes
+mod Holding

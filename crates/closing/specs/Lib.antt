@@ -1,0 +1,12 @@
+pub mod Numbering
+pub mod Sheet
+pub mod Law
+pub mod Causes
+pub mod Sorting
+pub mod Verdict
+pub mod Whole
+pub mod Edges
+pub mod Closed
+pub mod Held
+pub mod Spread
+pub mod Refusals

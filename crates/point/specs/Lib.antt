@@ -1,0 +1,10 @@
+pub mod Points
+pub mod Refusals
+pub mod Range
+pub mod Made
+pub mod Checked
+pub mod Solids
+pub mod Dealing
+pub mod Rows
+pub mod Figures
+pub mod Kinds

@@ -1,8 +1,7 @@
 -- The fault that is told is the first of those that a sheet has.
 use mathlib.Core.Path.{_≡_, refl, sym, ap, _∙_, subst}
-use mathlib.Core.Bool.{Bool, true, false, cond, not, _&&_, _||_}
-use mathlib.Core.Logic.{_⊎_, inl, inr, ⊎-elim}
-use mathlib.Core.List.{List}
+use mathlib.Core.Bool.{Bool, true, false, cond, not}
+use mathlib.Core.Logic.{inl, inr, ⊎-elim}
 use Prim.Native.Nat.{ℕ, _+_, _-_, _<_, _≤_, suc, zero}
 use native.Mathlib.Omega.{arith}
 use lib.Dec.{ltb, eqb}
@@ -12,16 +11,15 @@ use Rattle.std.specs.declared.option.Option.{Option}
 use Rattle.std.specs.declared.option.Option.the-variants.{Some, None}
 use Rattle.std.specs.declared.result.Result.{Result}
 use Rattle.std.specs.declared.result.Result.the-variants.{Ok, Err}
-use Rattle.std.proofs.shelf.Tests.{cases-bool, cases-lt, cases-eq, both-ways, not-true, not-false, not-from-true, not-from-false, and-parts, and-from, or-cases, or-parts, or-left, or-right, ltb-true, ltb-false, lt-ltb, le-ltb, eqb-true, eq-eqb, ne-eqb}
-use Rattle.mesh.specs.Mesh.{times, ring, turn}
-use Rattle.mesh.specs.Smallest.{smallest, any}
+use Rattle.std.proofs.shelf.Tests.{cases-lt, cases-eq, both-ways, not-true, not-from-false, and-parts, and-from, or-cases, or-parts, ltb-true, ltb-false, lt-ltb, le-ltb, eqb-true, eq-eqb, ne-eqb}
+use Rattle.mesh.specs.Mesh.{ring, turn}
+use Rattle.mesh.specs.Smallest.{smallest}
 use Rattle.mesh.proofs.Smallest.{Least, some-is, none-below, any-some, any-none, any-from, any-not}
 use Rattle.closing.specs.declared.fault.SkinFault.{SkinFault}
 use Rattle.closing.specs.declared.fault.SkinFault.the-variants.{Text, Face, TooMany, Short, Stray, Twice, Met, Single, Bare, Several, Crowded}
 use Rattle.closing.specs.Numbering.{start}
-use Rattle.closing.specs.Sheet.{Sheet, darts, mesh, from, to, alike, opposite, odd, stray, named, twice, met, single, bare, comes, several, crowded}
-use Rattle.closing.specs.Law.{Reaches}
-use Rattle.closing.specs.Causes.{Places, Lacks, Repeats, Apart, Wrong, rank, thing, Foremost, Told}
+use Rattle.closing.specs.Sheet.{Sheet, darts, mesh, from, to, alike, opposite, odd, stray, twice, met, single, bare, comes, several, crowded}
+use Rattle.closing.specs.Causes.{Places, Lacks, Repeats, Wrong, rank, thing, Foremost, Told}
 use Rattle.closing.specs.Verdict.{unless, judged, scant, verdict}
 use Rattle.closing.proofs.Numbering.{start-more}
 use Rattle.closing.proofs.Scans.{odd-not, odd-few, odd-many}
@@ -65,18 +63,27 @@ module _ (s : Sheet) (p : Places) where
   From k (Err y) = Wrong s p y × ((z : SkinFault) → k ≤ rank z → Wrong s p z → Foremost y z)
 
   found : (k : ℕ) (y : SkinFault) → rank y ≡ k → Wrong s p y → ((x : ℕ) → Wrong s p (made k x) → thing y ≤ x) → From k (Err y)
-  found k y e w least = (w, λ z l v. ⊎-elim
-      (λ (q : rank z ≡ k). inr (e ∙ sym q, least (thing z) (of-rank k z q v)))
-      (λ ne. inl (let u : rank y < rank z = omega arith in u))
-      (cases-eq (rank z) k))
+  found k y e w least = (
+    w,
+    λ z l v. ⊎-elim
+        (λ (q : rank z ≡ k). inr (e ∙ sym q, least (thing z) (of-rank k z q v)))
+        (λ ne. inl (let u : rank y < rank z = omega arith in u))
+        (cases-eq (rank z) k),
+  )
 
   next : (k : ℕ) (r : Result ℕ SkinFault) → ((x : ℕ) → Wrong s p (made k x) → ⊥) → From (k + 1) r → From k r
-  next k (Ok n) none f = (f .0, λ z l v. ⊎-elim
-      (λ (q : rank z ≡ k). none (thing z) (of-rank k z q v))
-      (λ ne. f .1 z (omega arith) v) (cases-eq (rank z) k))
-  next k (Err y) none f = (f .0, λ z l v. ⊎-elim
-      (λ (q : rank z ≡ k). absurd (none (thing z) (of-rank k z q v)))
-      (λ ne. f .1 z (omega arith) v) (cases-eq (rank z) k))
+  next k (Ok n) none f = (
+    f .0,
+    λ z l v. ⊎-elim
+        (λ (q : rank z ≡ k). none (thing z) (of-rank k z q v))
+        (λ ne. f .1 z (omega arith) v) (cases-eq (rank z) k),
+  )
+  next k (Err y) none f = (
+    f .0,
+    λ z l v. ⊎-elim
+        (λ (q : rank z ≡ k). absurd (none (thing z) (of-rank k z q v)))
+        (λ ne. f .1 z (omega arith) v) (cases-eq (rank z) k),
+  )
 
   -- a cause that names x: the smallest that q marks below n
   by-smallest : (k : ℕ) (F : ℕ → SkinFault) → ((x : ℕ) → made k x ≡ F x) → ((x : ℕ) → rank (F x) ≡ k) → ((x : ℕ) → thing (F x) ≡ x) →
@@ -97,9 +104,12 @@ module _ (s : Sheet) (p : Places) where
   -- ---- the causes one by one
 
   face-means : (f : ℕ) → Least (odd (s .lengths)) (length (s .lengths)) f → Wrong s p (Face f)
-  face-means f l = (l .below, ⊎-elim (λ u. inl u) (λ u. ⊎-elim (λ v. inr v)
-      (λ v. absurd (both-ways (odd (s .lengths) f) (odd-not (s .lengths) f u v) (l .marked)))
-      (cases-lt 64 (getD (s .lengths) f 0))) (cases-lt (getD (s .lengths) f 0) 3))
+  face-means f l = (
+    l .below,
+    ⊎-elim (λ u. inl u) (λ u. ⊎-elim (λ v. inr v)
+        (λ v. absurd (both-ways (odd (s .lengths) f) (odd-not (s .lengths) f u v) (l .marked)))
+        (cases-lt 64 (getD (s .lengths) f 0))) (cases-lt (getD (s .lengths) f 0) 3),
+  )
 
   face-marks : (f : ℕ) → Wrong s p (Face f) → (f < length (s .lengths)) × (odd (s .lengths) f ≡ true)
   face-marks f w = (w .0, ⊎-elim (λ u. odd-few (s .lengths) f u) (λ u. odd-many (s .lengths) f u) (w .1))
@@ -129,8 +139,11 @@ module _ (s : Sheet) (p : Places) where
   met-marks h w = (w .0, met-from s (w .1 .0) h (w .1 .1) (w .1 .2) (w .1 .3))
 
   single-means : (h : ℕ) → Least (single s) (darts s) h → Wrong s p (Single h)
-  single-means h l = (l .below, λ g u a b.
-      both-ways (opposite s h g) (any-none (opposite s h) (darts s) (not-true _ (l .marked)) g u) (and-from _ _ (eq-eqb _ _ a) (eq-eqb _ _ b)))
+  single-means h l = (
+    l .below,
+    λ g u a b.
+        both-ways (opposite s h g) (any-none (opposite s h) (darts s) (not-true _ (l .marked)) g u) (and-from _ _ (eq-eqb _ _ a) (eq-eqb _ _ b)),
+  )
 
   single-marks : (h : ℕ) → Wrong s p (Single h) → (h < darts s) × (single s h ≡ true)
   single-marks h w = (w .0, unopposed s h (λ g t. w .1 g (t .below) (t .starts) (t .ends)))
@@ -161,9 +174,18 @@ module _ (s : Sheet) (p : Places) where
         let h = any-some _ (darts s) (l .marked) in
         let a = and-parts (eqb (from s (h .0)) v) _ (h .2 .marked) in
         let g = any-some _ (darts s) (a .1) in
-        let b = and-parts (eqb (from s (g .0)) v) (not (comes s (g .0) (h .0))) (g .2 .marked) in
-        (l .below, (g .0, h .0, g .2 .below, h .2 .below, eqb-true _ _ (b .0), eqb-true _ _ (a .0),
-        λ r. both-ways (comes s (g .0) (h .0)) (not-true _ (b .1)) (steps-come s new paired (g .0) (h .0) (g .2 .below) (r .0) (r .1))))
+        let b = and-parts (eqb (from s (g .0)) v) (not (comes s (g .0) (h .0))) (g .2 .marked) in (
+          l .below,
+          (
+            g .0,
+            h .0,
+            g .2 .below,
+            h .2 .below,
+            eqb-true _ _ (b .0),
+            eqb-true _ _ (a .0),
+            λ r. both-ways (comes s (g .0) (h .0)) (not-true _ (b .1)) (steps-come s new paired (g .0) (h .0) (g .2 .below) (r .0) (r .1)),
+          ),
+        )
 
   -- ---- faces that name a vertex twice are told by their first dart
 

@@ -1,26 +1,25 @@
 -- A sheet has no fault exactly if some skin has its faces and vertices.
-use mathlib.Core.Path.{_≡_, refl, sym, ap, _∙_, subst}
-use mathlib.Core.Bool.{Bool, true, false, cond, not, _&&_}
-use mathlib.Core.Logic.{_⊎_, inl, inr, ⊎-elim}
-use mathlib.Core.List.{List}
-use Prim.Native.Nat.{ℕ, _+_, _-_, _<_, _≤_, suc, zero}
+use mathlib.Core.Path.{_≡_, sym, ap, _∙_, subst}
+use mathlib.Core.Bool.{true}
+use mathlib.Core.Logic.{⊎-elim}
+use Prim.Native.Nat.{ℕ, _<_, _≤_, suc, zero}
 use native.Mathlib.Omega.{arith}
-use lib.Dec.{ltb, leb, eqb}
+use lib.Dec.{eqb}
 use lib.ListN.{length, getD}
-use Rattle.std.specs.declared.option.Option.the-variants.{Some, None}
-use Rattle.std.proofs.shelf.Tests.{cases-bool, cases-lt, not-from-true, both-ways, and-parts, and-left, and-right, le-ltb, lt-ltb, eqb-true, eq-eqb, ne-eqb}
-use Rattle.mesh.specs.Mesh.{Mesh, Lawful, Same, times, ring, turn, Period}
-use Rattle.mesh.specs.Smallest.{smallest, any}
-use Rattle.mesh.proofs.Rings.{times-zero, times-suc, times-keeps, ring-pos, ring-back, ring-least, on-steps}
+use Rattle.std.specs.declared.option.Option.the-variants.{None}
+use Rattle.std.proofs.shelf.Tests.{cases-bool, cases-lt, not-from-true, and-parts, and-right, le-ltb, lt-ltb, eqb-true, eq-eqb, ne-eqb}
+use Rattle.mesh.specs.Mesh.{Mesh, Lawful, Same, times, ring, turn}
+use Rattle.mesh.specs.Smallest.{smallest}
+use Rattle.mesh.proofs.Rings.{times-zero, times-suc, times-keeps, ring-pos, ring-least, on-steps}
 use Rattle.mesh.proofs.Periods.{steps-few}
 use Rattle.mesh.proofs.Same.{same-lawful, same-turn, same-face}
 use Rattle.mesh.proofs.Smallest.{none-from, any-from, any-not}
-use Rattle.closing.specs.Numbering.{total, start, face, next, prev}
-use Rattle.closing.specs.Sheet.{Sheet, darts, mesh, from, to, alike, opposite, twin, odd, stray, named, twice, met, single, bare, comes, several, crowded}
+use Rattle.closing.specs.Numbering.{start, next, prev}
+use Rattle.closing.specs.Sheet.{Sheet, darts, mesh, from, to, alike, twin, odd, stray, twice, met, single, bare, comes, several, crowded}
 use Rattle.closing.specs.Edges.{Goes}
 use Rattle.closing.specs.Law.{Reaches, Skins, Closable}
 use Rattle.std.proofs.shelf.Counted.{length-counting}
-use Rattle.closing.proofs.Numbering.{In, place, in-prev, in-total, undo-prev, ends}
+use Rattle.closing.proofs.Numbering.{place, in-prev, in-total, undo-prev, ends}
 use Rattle.closing.proofs.Scans.{sized, odd-not}
 use Rattle.closing.proofs.Turning.{one-edge, turn-below, unturn, turn-back}
 use Rattle.closing.proofs.Lawful.{Sound, closes, apart, known, used}

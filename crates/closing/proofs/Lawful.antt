@@ -1,21 +1,18 @@
 -- A sheet in which none of the causes is found closes to a skin.
-use mathlib.Core.Path.{_≡_, refl, sym, ap, _∙_, subst}
-use mathlib.Core.Bool.{Bool, true, false, cond, not, _&&_}
-use mathlib.Core.Logic.{_⊎_, inl, inr, ⊎-elim}
-use mathlib.Core.List.{List, [], _∷_}
-use Prim.Native.Nat.{ℕ, _+_, _-_, _<_, _≤_, suc, zero}
+use mathlib.Core.Path.{_≡_, refl, sym, ap, _∙_}
+use mathlib.Core.Logic.{⊎-elim}
+use Prim.Native.Nat.{ℕ, _+_, _-_, _<_, _≤_}
 use native.Mathlib.Omega.{arith}
-use lib.Dec.{ltb, leb, eqb}
+use lib.Dec.{ltb, eqb}
 use lib.ListN.{length, getD}
-use Rattle.std.specs.Options.{valueOr}
-use Rattle.std.specs.declared.option.Option.the-variants.{Some, None}
-use Rattle.std.proofs.shelf.Tests.{cases-lt, cases-eq, cases-order, not-false, both-ways, and-parts, and-from, and-cases, ltb-true, ltb-false, leb-true, eqb-true, eqb-false, eq-eqb, lt-ltb}
-use Rattle.mesh.specs.Mesh.{Mesh, Lawful, times, ring, turn}
-use Rattle.mesh.specs.Smallest.{smallest, any}
-use Rattle.mesh.proofs.Rings.{ring-bound, times-zero, times-suc, times-keeps, times-add}
-use Rattle.mesh.proofs.Smallest.{Least, none-below, any-some, any-none, any-from}
-use Rattle.closing.specs.Numbering.{total, start, face, next, prev, after}
-use Rattle.closing.specs.Sheet.{Sheet, darts, mesh, from, to, alike, opposite, twin, odd, stray, named, twice, met, single, bare, comes, several, crowded}
+use Rattle.std.specs.declared.option.Option.the-variants.{None}
+use Rattle.std.proofs.shelf.Tests.{cases-order, not-false, both-ways, and-cases, ltb-true, ltb-false, eqb-true, eq-eqb}
+use Rattle.mesh.specs.Mesh.{Lawful, ring, turn}
+use Rattle.mesh.specs.Smallest.{smallest}
+use Rattle.mesh.proofs.Rings.{ring-bound}
+use Rattle.mesh.proofs.Smallest.{none-below, any-some, any-none, any-from}
+use Rattle.closing.specs.Numbering.{start, face, next}
+use Rattle.closing.specs.Sheet.{Sheet, darts, mesh, from, to, twin, odd, stray, twice, met, single, bare, several, crowded}
 use Rattle.closing.specs.Law.{Reaches, Skins}
 use Rattle.closing.proofs.Numbering.{In, place, in-total, in-next, in-prev, undo-next, undo-prev, round, next-moves, face-ring}
 use Rattle.closing.proofs.Scans as scans

@@ -2,7 +2,7 @@
 use mathlib.Core.Path.{_≡_, refl, sym, ap, _∙_, subst}
 use mathlib.Core.Bool.{Bool, true, false, cond, _||_}
 use mathlib.Core.List.{List, _++_, map}
-use Prim.Native.Nat.{ℕ, _≤_, _<_, _+_}
+use Prim.Native.Nat.{ℕ, _≤_, _<_}
 use native.Mathlib.Omega.{arith}
 use lib.Dec.{ltb}
 use lib.ListN.{length, getD, drop}
@@ -15,14 +15,14 @@ use Rattle.std.specs.declared.result.Result.{Result}
 use Rattle.std.specs.declared.result.Result.the-variants.{Ok, Err}
 use Rattle.std.proofs.shelf.Counted.{length-map-counting, getD-map-counting}
 use Rattle.std.proofs.shelf.Lists.{getD-append-left}
-use mathlib.Core.Logic.{_⊎_, inl, inr, ⊎-elim}
+use mathlib.Core.Logic.{inl, inr, ⊎-elim}
 use Rattle.std.proofs.shelf.Tests.{cases-bool, or-left, or-right, or-from, false≢true, cond-true, cond-false, lt-ltb, le-ltb, ltb-true, ltb-false, or-parts}
 use Rattle.mesh.specs.Tables.{tables}
 use Rattle.mesh.specs.Smallest.{smallest}
 use Rattle.closing.specs.declared.fault.SkinFault.{SkinFault}
 use Rattle.closing.specs.declared.fault.SkinFault.the-variants.{Face, TooMany, Short, Stray, Twice, Met, Single, Bare, Several, Crowded}
 use Rattle.closing.specs.Numbering.{start}
-use Rattle.closing.specs.Sheet.{Sheet, darts, mesh, odd, stray, twice, met, single, bare, several, crowded}
+use Rattle.closing.specs.Sheet.{Sheet, darts, mesh, odd}
 use Rattle.closing.specs.Edges.{Holds}
 use Rattle.closing.specs.Law.{Skins, Closable}
 use Rattle.closing.specs.Causes.{Places, places, Room, Lacks}

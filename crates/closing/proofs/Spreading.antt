@@ -1,7 +1,7 @@
 -- Spreading, place by place.
 use mathlib.Core.Path.{_≡_, refl, sym, ap, _∙_, subst}
-use mathlib.Core.Logic.{_⊎_, inl, inr, ⊎-elim}
-use mathlib.Core.Bool.{Bool, true, false, cond, _||_}
+use mathlib.Core.Logic.{_⊎_, ⊎-elim}
+use mathlib.Core.Bool.{false, _||_}
 use mathlib.Core.List.{List}
 use Prim.Native.Nat.{ℕ, _+_, _<_, _≤_}
 use native.Mathlib.Omega.{arith}
@@ -15,7 +15,6 @@ use Rattle.mesh.specs.Smallest.{smallest}
 use Rattle.mesh.proofs.Smallest.{none-below}
 use Rattle.closing.specs.declared.fault.SkinFault.the-variants.{Short, Stray}
 use Rattle.closing.specs.Sheet.{darts, stray}
-use Rattle.closing.specs.Law.{Skins}
 use Rattle.closing.specs.Spread.{told, Spread, Alike}
 use Rattle.closing.proofs.Verdicts.{declined, passed}
 

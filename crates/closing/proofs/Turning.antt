@@ -1,22 +1,20 @@
 -- Where each directed edge is there once, with its opposite, turning about a vertex goes round it.
-use mathlib.Core.Path.{_≡_, refl, sym, ap, _∙_, subst}
-use mathlib.Core.Bool.{Bool, true, false, cond, not, _&&_}
-use mathlib.Core.Logic.{_⊎_, inl, inr, ⊎-elim}
-use mathlib.Core.List.{List, [], _∷_}
-use Prim.Native.Nat.{ℕ, _+_, _-_, _<_, _≤_, suc, zero}
+use mathlib.Core.Path.{_≡_, sym, ap, _∙_, subst}
+use mathlib.Core.Bool.{Bool, true, false}
+use mathlib.Core.Logic.{⊎-elim}
+use Prim.Native.Nat.{ℕ, _+_, _-_, _<_, suc, zero}
 use native.Mathlib.Omega.{arith}
-use lib.Dec.{ltb, leb, eqb}
-use lib.ListN.{length, getD}
+use lib.Dec.{eqb}
 use Rattle.std.specs.Options.{valueOr}
-use Rattle.std.specs.declared.option.Option.the-variants.{Some, None}
-use Rattle.std.proofs.shelf.Tests.{cases-bool, cases-lt, cases-eq, cases-order, not-false, both-ways, and-parts, and-from, and-cases, ltb-true, ltb-false, leb-true, eqb-true, eqb-false, eq-eqb, lt-ltb}
-use Rattle.mesh.specs.Mesh.{Mesh, times, turn, Period}
+use Rattle.std.specs.declared.option.Option.the-variants.{None}
+use Rattle.std.proofs.shelf.Tests.{cases-bool, cases-order, not-false, both-ways, and-parts, and-from, eqb-true, eq-eqb}
+use Rattle.mesh.specs.Mesh.{times, turn, Period}
 use Rattle.mesh.specs.Smallest.{smallest, any}
 use Rattle.mesh.proofs.Rings.{times-zero, times-suc, times-keeps}
 use Rattle.mesh.proofs.Periods.{steps-few, within-period}
-use Rattle.mesh.proofs.Smallest.{Least, none-below, any-some, any-none, any-from}
-use Rattle.closing.specs.Numbering.{total, start, face, next, prev, after}
-use Rattle.closing.specs.Sheet.{Sheet, darts, mesh, from, to, alike, opposite, twin, odd, stray, named, twice, met, single, bare, comes, several, crowded}
+use Rattle.mesh.proofs.Smallest.{none-below, any-some, any-none, any-from}
+use Rattle.closing.specs.Numbering.{face, next, prev}
+use Rattle.closing.specs.Sheet.{Sheet, darts, mesh, from, to, alike, opposite, twin, met, single, comes}
 use Rattle.closing.proofs.Numbering.{place, in-total, in-next, undo-next}
 
 -- g goes back where h comes from

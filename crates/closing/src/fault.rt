@@ -5,9 +5,12 @@ ghost use Rattle.closing.specs.Refusals.{refusalOf};
 ghost use Rattle.closing.specs.declared.fault.SkinFault.the-variants.{Text};
 use refusal::Refusal;
 use sheet::fault::TextFault;
+use sheet::fault::TextFaultDebug;
+use sheet::fault::TextFaultEq;
+use sheet::fault::TextFaultPartialEq;
 
 // Each case carries the value that is returned with it.
-#[derive(Clone, Copy)]
+#[derive(Clone, Copy, PartialEq, Eq, Debug)]
 pub enum SkinFault {
     // the text of the sheet was declined
     Text(TextFault),
@@ -74,6 +77,6 @@ pub impl From<TextFault> for SkinFault as TextInSkin {
     ghost converts = { λ x y. y ≡ Text x };
 
     fn from(fault: TextFault) -> SkinFault {
-        SkinFault::Text(fault)
+        Self::Text(fault)
     }
 }

@@ -1,6 +1,6 @@
 // Spreading the points of a sheet over its darts.
 ghost use mathlib.Core.Path.{_≡_};
-ghost use mathlib.Core.Bool.{Bool, true, false};
+ghost use mathlib.Core.Bool.{true, false};
 ghost use lib.ListN.{length};
 ghost use Rattle.std.specs.Results.{isOk};
 ghost use Rattle.closing.specs.Spread.{told as outcome, Spread, Alike};

@@ -48,7 +48,10 @@ pub impl fmt::Display for Report as ReportDisplay {
                 let darts = found.darts;
                 let tally = Tally(found.counts);
                 let figure = found.figure;
-                write!(f, "darts {darts}\n{tally}vertices - edges + faces {figure}\n")
+                write!(
+                    f,
+                    "darts {darts}\n{tally}vertices - edges + faces {figure}\n"
+                )
             }
             Report::Declined(refused) => write!(f, "{refused}"),
         }

@@ -12,5 +12,5 @@ figures =
       torus-split = (refl, refl, refl);
       triangles-2 = (refl, refl, refl);
       triangles-split = (refl, refl, refl);
-      triangles-dual = (refl, refl, refl)
+      triangles-dual = (refl, refl, refl);
     }

@@ -96,24 +96,24 @@ none-from-lawful m l =
     let c : smallest (m .n) (overlong m) ≡ None = none-from (overlong m) (m .n) (λ h b. rw (le-leb (length (ring (m .next) h)) 64 (l .faces-short h b), le-leb (length (ring (turn m) h)) 64 (l .vertices-short h b)) refl) in
     rw (a, b, c) refl
 
-
 -- where a walk of at most 64 steps stops tells whether the ring is long
 pub walk-more : (f : ℕ → ℕ) (h k c : ℕ) → c ≡ times k f h → (c ≡ h → ⊥) → ((i : ℕ) → 0 < i → i < k → times i f h ≡ h → ⊥)
-  → (i : ℕ) → 0 < i → i < k + 1 → times i f h ≡ h → ⊥
+    → (i : ℕ) → 0 < i → i < k + 1 → times i f h ≡ h → ⊥
 walk-more f h k c e ne before i p l q =
     ⊎-elim (λ (s : i ≡ k). ne (e ∙ ap (λ j. times j f h) (sym s) ∙ q)) (λ s. before i p (omega arith) q) (cases-eq i k)
 
 pub walk-ends : (f : ℕ → ℕ) (h k c : ℕ) → 1 ≤ k → k ≤ 64 → c ≡ times k f h → ((i : ℕ) → 0 < i → i < k → times i f h ≡ h → ⊥)
-  → (64 ≤ k) ⊎ (c ≡ h) → not (eqb c h) ≡ long-ring f h
+    → (64 ≤ k) ⊎ (c ≡ h) → not (eqb c h) ≡ long-ring f h
 walk-ends f h k c s t e before w = ⊎-elim back away (cases-eq c h)
   where
     back : c ≡ h → not (eqb c h) ≡ long-ring f h
     back b = rw (eq-eqb c h b, le-leb (length (ring f h)) 64 (omega (arith, ring-bound f h k s (sym e ∙ b)))) refl
+
     away : (c ≡ h → ⊥) → not (eqb c h) ≡ long-ring f h
     away n =
         let far : 64 ≤ k = ⊎-elim (λ l. l) (λ b. absurd (n b)) w in
         let over : 64 < length (ring f h) =
-            ⊎-elim (λ l. l)
-            (λ l. absurd (walk-more f h k c e n before (length (ring f h)) (ring-pos f h) (omega arith) (ring-back f h l)))
-            (cases-lt 64 (length (ring f h))) in
+        ⊎-elim (λ l. l)
+        (λ l. absurd (walk-more f h k c e n before (length (ring f h)) (ring-pos f h) (omega arith) (ring-back f h l)))
+        (cases-lt 64 (length (ring f h))) in
         rw (ne-eqb c h n, lt-leb (length (ring f h)) 64 over) refl

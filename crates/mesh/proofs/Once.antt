@@ -32,16 +32,20 @@ module _ (n : ℕ) (f : ℕ → ℕ) (below : Keeps n f) (short : Short n f) whe
     where
       j : ℕ
       j = least f h (length (ring f h)) .0
+
       x : ℕ
       x = lead h
+
       low : (k : ℕ) → x ≤ times k f h
       low k =
           let o = on-steps f h (short h l) k in
           subst (λ y. x ≤ y) (o .2) (least f h (length (ring f h)) .1 (o .0) (omega (arith, o .1)))
+
       yes′ : leads f x ≡ true
       yes′ =
           decides-leads f x (short x (times-keeps n f below j h l)) .1
           (λ k. subst (λ y. x ≤ y) (sym (times-add k j f h)) (low (k + j)))
+
       alone : (k : ℕ) → leads f (times k f h) ≡ true → times k f h ≡ x
       alone k e =
           let y = times k f h in
@@ -57,21 +61,26 @@ module _ (n : ℕ) (f : ℕ → ℕ) (below : Keeps n f) (short : Short n f) whe
     where
       number : ℕ → ℕ
       number h = count (leads f) (lead h)
+
       led : (h : ℕ) → h < n → lead h < n
       led h l = times-keeps n f below (once h l .steps) h l
+
       low : (h : ℕ) → h < n → number h < rings f n
       low h l = rank-below (leads f) (lead h) n (once h l .counted) (led h l)
+
       same : (h i : ℕ) → h < n → number (times i f h) ≡ number h
       same h i l =
           let d = once (times i f h) (times-keeps n f below i h l) in
           let e : times (d .steps + i) f h ≡ lead (times i f h) = sym (times-add (d .steps) i f h) in
           let t : leads f (times (d .steps + i) f h) ≡ true = ap (leads f) e ∙ d .counted in
           ap (count (leads f)) (sym e ∙ once h l .only (d .steps + i) t)
+
       meet : (h d : ℕ) → h < n → d < n → number h ≡ number d → (i : ℕ) × (times i f h ≡ d)
       meet h d l k e =
           let q : lead h ≡ lead d = rank-same (leads f) (lead h) (lead d) (once h l .counted) (once d k .counted) e in
           let o = on-sym f d (lead d) (short d k) (on-steps f d (short d k) (once d k .steps)) in
           (o .0 + once h l .steps, sym (times-add (o .0) (once h l .steps) f h) ∙ ap (times (o .0) f) q ∙ o .2)
+
       all : (x : ℕ) → x < rings f n → (h : ℕ) × (h < n) × (number h ≡ x)
       all x l =
           let r = rank-every (leads f) n x l in

@@ -43,30 +43,43 @@ module _ (m : Mesh) (l : Lawful m) (small : m .n ≤ 262144) where
     where
       f : ℕ → ℕ
       f = turn (quad m)
+
       x : ℕ
       x = 4 * h + 1
+
       y : ℕ
       y = 4 * m .next h + 3
+
       z : ℕ
       z = 4 * m .twin h + 1
+
       w : ℕ
       w = 4 * turn m h + 3
+
       s1 : f x ≡ y
       s1 = turn1 m h
+
       s2 : f y ≡ z
       s2 = turn3 m (m .next h) ∙ ap (λ u. 4 * m .twin u + 1) (l .prev-next h b)
+
       s3 : f z ≡ w
       s3 = turn1 m (m .twin h)
+
       s4 : f w ≡ x
       s4 = turn3 m (turn m h) ∙ ap (λ u. 4 * m .twin u + 1) (l .prev-next (m .twin h) (l .twin-below h b)) ∙ ap (λ u. 4 * u + 1) (l .twin-twin h b)
+
       t1 : times 1 f x ≡ y
       t1 = times-suc 0 f x ∙ ap f (times-zero f x) ∙ s1
+
       t2 : times 2 f x ≡ z
       t2 = times-suc 1 f x ∙ ap f t1 ∙ s2
+
       t3 : times 3 f x ≡ w
       t3 = times-suc 2 f x ∙ ap f t2 ∙ s3
+
       back : times 4 f x ≡ x
       back = times-suc 3 f x ∙ ap f t3 ∙ s4
+
       apart : (i : ℕ) → 0 < i → i < 4 → times i f x ≡ x → ⊥
       apart zero p k e = omega arith
       apart (suc zero) p k e = let q : 4 * m .next h + 3 ≡ 4 * h + 1 = sym t1 ∙ e in omega arith
@@ -81,6 +94,6 @@ module _ (m : Mesh) (l : Lawful m) (small : m .n ≤ 262144) where
         of-vertex = λ h b. ring-along (m .n) (turn m) (turn (quad m)) (λ x. 4 * x) (turn-below m l) (λ x _. turn0 m x) (λ x y e. omega arith) h b (l .vertices-short h b);
         of-edge = edge-ring;
         of-face = λ h b.
-          ring-along (m .n) (m .prev) (turn (quad m)) (λ x. 4 * x + 2) (l .prev-below) (λ x _. turn2 m x) (λ x y e. omega arith) h b
-          (omega (arith, l .faces-short h b, inverse-long (m .n) (m .next) (m .prev) (l .next-below) (l .prev-below) (l .prev-next) (l .next-prev) h b (l .faces-short h b)))
+            ring-along (m .n) (m .prev) (turn (quad m)) (λ x. 4 * x + 2) (l .prev-below) (λ x _. turn2 m x) (λ x y e. omega arith) h b
+            (omega (arith, l .faces-short h b, inverse-long (m .n) (m .next) (m .prev) (l .next-below) (l .prev-below) (l .prev-next) (l .next-prev) h b (l .faces-short h b)));
       }

@@ -66,10 +66,10 @@ pub shown : {m : Mesh} → ∥ Lawful m ∥₁ → Lawful m
 shown {m} t =
     ∥∥₁-elim t
     (Lawful-prop le-prop
-      (Π-prop λ h. Π-prop λ b. le-prop) (Π-prop λ h. Π-prop λ b. le-prop) (Π-prop λ h. Π-prop λ b. le-prop)
-      (Π-prop λ h. Π-prop λ b. ℕ-set _ _) (Π-prop λ h. Π-prop λ b. ℕ-set _ _) (Π-prop λ h. Π-prop λ b. ℕ-set _ _)
-      (Π-prop λ h. Π-prop λ b. Π-prop λ e. ⊥-prop)
-      (Π-prop λ h. Π-prop λ b. le-prop) (Π-prop λ h. Π-prop λ b. le-prop))
+    (Π-prop λ h. Π-prop λ b. le-prop) (Π-prop λ h. Π-prop λ b. le-prop) (Π-prop λ h. Π-prop λ b. le-prop)
+    (Π-prop λ h. Π-prop λ b. ℕ-set _ _) (Π-prop λ h. Π-prop λ b. ℕ-set _ _) (Π-prop λ h. Π-prop λ b. ℕ-set _ _)
+    (Π-prop λ h. Π-prop λ b. Π-prop λ e. ⊥-prop)
+    (Π-prop λ h. Π-prop λ b. le-prop) (Π-prop λ h. Π-prop λ b. le-prop))
     (λ l. l)
 
 -- what a call answers of dart h: x, and none for a dart of n or more
@@ -90,11 +90,11 @@ corner (suc (suc (suc k))) a b c d = d
 -- four darts 4h + j for each dart h; of a mesh of more than 262,144 darts, the mesh of no darts
 abbrev pub quad : Mesh → Mesh
 quad m =
-    record
-    { n = cond (leb (m .n) 262144) (4 * m .n) 0
-    ; next = λ d. 4 * (d / 4) + corner (d % 4) 1 2 3 0
-    ; prev = λ d. 4 * (d / 4) + corner (d % 4) 3 0 1 2
-    ; twin = λ d. corner (d % 4) (4 * turn m (d / 4) + 3) (4 * m .next (d / 4) + 2) (4 * m .prev (d / 4) + 1) (4 * m .twin (m .prev (d / 4)))
+    record {
+      n = cond (leb (m .n) 262144) (4 * m .n) 0;
+      next = λ d. 4 * (d / 4) + corner (d % 4) 1 2 3 0;
+      prev = λ d. 4 * (d / 4) + corner (d % 4) 3 0 1 2;
+      twin = λ d. corner (d % 4) (4 * turn m (d / 4) + 3) (4 * m .next (d / 4) + 2) (4 * m .prev (d / 4) + 1) (4 * m .twin (m .prev (d / 4)));
     }
 
 -- two meshes that mean the same: as many darts, and the same said of each

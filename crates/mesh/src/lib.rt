@@ -7,5 +7,4 @@ pub const DARTS: u32 = 1_048_576;
 // The counts of a small torus and of two triangles, before and after a split.
 pub fn figures_stand()
     ensures { λ _. ⌜ Figures ⌝ }
-{
-}
+{}

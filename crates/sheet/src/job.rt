@@ -7,9 +7,9 @@ ghost use Rattle.sheet.specs.Job.{jobLine, ReadsJob};
 use crate::fault::TextFault;
 use crate::read::read_sheet;
 use crate::record::JobSizes;
-use point::solid::SolidRecord;
 use crate::step::expect;
 use crate::step::natural_at;
+use point::solid::SolidRecord;
 
 // The most averages after a split.
 const DEGREES: u32 = 9;

@@ -1,6 +1,9 @@
 // Tests of the reader at the edges of the form. They stand apart, since a crate with tests is proved twice.
 #[cfg(test)]
 mod tests {
+    use point::solid::SolidRecord;
+    use point::solid::SolidRecordDebug;
+    use point::solid::SolidRecordPartialEq;
     use refusal::Refusal;
     use refusal::RefusalDebug;
     use refusal::RefusalPartialEq;
@@ -11,9 +14,6 @@ mod tests {
     use sheet::record::Sizes;
     use sheet::record::SizesDebug;
     use sheet::record::SizesPartialEq;
-    use point::solid::SolidRecord;
-    use point::solid::SolidRecordDebug;
-    use point::solid::SolidRecordPartialEq;
     use std::test::*;
 
     const OLD: SolidRecord = SolidRecord { x: 7, y: 7, z: 7 };

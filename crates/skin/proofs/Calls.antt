@@ -1,14 +1,13 @@
 -- What an answer of a call tells of its dart.
 use mathlib.Core.Path.{_≡_, refl, sym, _∙_, ap, subst}
-use mathlib.Core.Bool.{Bool, true, false, cond}
+use mathlib.Core.Bool.{Bool, true, false, cond, _&&_}
 use Prim.Native.Nat.{ℕ, _<_, _≤_}
 use native.Mathlib.Omega.{arith}
 use lib.Dec.{ltb}
 use Rattle.std.specs.declared.option.Option.{Option}
 use Rattle.std.specs.declared.option.Option.the-variants.{Some, None}
-use Rattle.std.proofs.shelf.Tests.{ltb-true, cond-both, cond-below}
+use Rattle.std.proofs.shelf.Tests.{ltb-true, lt-ltb, cond-both, cond-below}
 use Rattle.mesh.specs.Mesh.{Mesh, Lawful, within}
-use Rattle.mesh.proofs.Rings.{Keeps}
 
 -- a call that answers y was asked of a dart below n, and y is what the mesh says
 pub answered : (n h x y : ℕ) → Some y ≡ within n h x → (h < n) × (y ≡ x)
@@ -42,3 +41,7 @@ never-none n h x b e =
 -- a step that was answered by y, as unwrap tells it
 pub unwrapped : {o : Option ℕ} (n h x y : ℕ) → o ≡ within n h x → o ≡ Some y → (h < n) × (y ≡ x)
 unwrapped n h x y e q = answered n h x y (sym q ∙ e)
+
+-- a test that only darts pass, asked of a dart
+pub of-dart : (n h : ℕ) (b : Bool) → h < n → (ltb h n && b) ≡ b
+of-dart n h b l = ap (λ x. x && b) (lt-ltb h n l)

@@ -123,8 +123,8 @@ down-step m l bits ds i c w d ic il b =
     ap (λ z. climb (set ds i v) i z x) (let e : c - i ≡ suc (c - suc i) = omega arith in e)
     ∙ climb-down ds i (c - suc i) v x il
     ∙ ap (climb ds (suc i) (c - suc i))
-      (sym (act-rung (getD bits i false) (level i bits m) (level-lawful i bits m l) w d (rw level-suc at b))
-        ∙ ap (λ M. act M w d) (sym (level-suc i bits m)))
+    (sym (act-rung (getD bits i false) (level i bits m) (level-lawful i bits m l) w d (rw level-suc at b))
+    ∙ ap (λ M. act M w d) (sym (level-suc i bits m)))
 
 -- where the way down ends: at the base, with its answer, or where the way stays
 pub at-foot : (m : Mesh) (bits : List Bool) (i : ℕ) (w : Way) (d x : ℕ) → i ≡ 0 → x ≡ act m w d → x ≡ act (level i bits m) w d

@@ -120,7 +120,11 @@ impl<S> Ladder<S> {
         ensures count { λ r. ⌜ r .count ≡ 0 ⌝ }
         ensures mesh { λ r. ⌜ ((m : Mesh) → level (r .count) (r .bits) m ≡ m) ⌝ }
     {
-        Ladder { base, bits: [false; 8], count: 0 }
+        Ladder {
+            base,
+            bits: [false; 8],
+            count: 0,
+        }
     }
 
     // One more Quad at the top, of the Dual where the bit is 1.
@@ -173,13 +177,7 @@ impl<S: Skin> Ladder<S> {
         ensures { λ r. ⌜ r ≡ within (S·Skin .n (now (self .entry) .base)) h (act (mesh S·Skin (now (self .entry) .base)) way h) ⌝ }
     {
         match way {
-            Way::Stay => {
-                if h < self.base.n() {
-                    Some(h)
-                } else {
-                    None
-                }
-            }
+            Way::Stay => { if h < self.base.n() { Some(h) } else { None } }
             Way::Next => self.base.next(h),
             Way::Prev => self.base.prev(h),
             Way::Twin => self.base.twin(h),

@@ -4,6 +4,7 @@ ghost use denote.Ref.{now};
 ghost use lib.ListN.{length};
 ghost use Rattle.mesh.specs.Mesh.{Lawful};
 ghost use Rattle.mesh.specs.Tables.{tables};
+
 pub mod calls;
 mod scan;
 

@@ -59,11 +59,19 @@ pub impl Skin for Torus as TorusSkin {
     }
 
     fn next(&self, d: u32) -> Option<u32> {
-        if d < self.darts() { Some(4 * (d / 4) + after(4, d % 4)) } else { None }
+        if d < self.darts() {
+            Some(4 * (d / 4) + after(4, d % 4))
+        } else {
+            None
+        }
     }
 
     fn prev(&self, d: u32) -> Option<u32> {
-        if d < self.darts() { Some(4 * (d / 4) + before(4, d % 4)) } else { None }
+        if d < self.darts() {
+            Some(4 * (d / 4) + before(4, d % 4))
+        } else {
+            None
+        }
     }
 
     fn twin(&self, d: u32) -> Option<u32> {

@@ -23,6 +23,24 @@ impl SolidPoint {
             None => Ok(SolidPoint { x, y, z }),
         }
     }
+
+    pub fn x(&self) -> i32
+        ensures { λ r. ⌜ r ≡ now (self .entry) .x ⌝ }
+    {
+        self.x
+    }
+
+    pub fn y(&self) -> i32
+        ensures { λ r. ⌜ r ≡ now (self .entry) .y ⌝ }
+    {
+        self.y
+    }
+
+    pub fn z(&self) -> i32
+        ensures { λ r. ⌜ r ≡ now (self .entry) .z ⌝ }
+    {
+        self.z
+    }
 }
 
 // The mean of one coordinate: to the nearest whole number, halves up.

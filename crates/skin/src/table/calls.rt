@@ -7,8 +7,8 @@ ghost use Rattle.skin.specs.Verdict.{verdict};
 ghost use Rattle.mesh.specs.Mesh.{shown};
 ghost use Rattle.skin.specs.Fit.{Fit};
 ghost use Rattle.skin.specs.Meaning.{meaning, nothing};
-use super::scan::first_fault;
 use super::TableSkin;
+use super::scan::first_fault;
 use crate::fault::Fault;
 use crate::skin::Skin;
 use mesh::DARTS;
@@ -27,7 +27,13 @@ impl<'a> TableSkin<'a> {
     }
 
     // Puts n and the tables in the place of the skin that is held, or refuses and leaves that as it was.
-    pub fn adopt(&mut self, n: u32, next: &'a [u32], prev: &'a [u32], twin: &'a [u32]) -> Result<(), Fault>
+    pub fn adopt(
+        &mut self,
+        n: u32,
+        next: &'a [u32],
+        prev: &'a [u32],
+        twin: &'a [u32],
+    ) -> Result<(), Fault>
         ensures answer { λ r. ⌜ r ≡ verdict n (now (next .entry)) (now (prev .entry)) (now (twin .entry)) ⌝ }
         ensures exact { λ r. ⌜ (isOk r ≡ true → Fit n (now (next .entry)) (now (prev .entry)) (now (twin .entry))) × (Fit n (now (next .entry)) (now (prev .entry)) (now (twin .entry)) → isOk r ≡ true) ⌝ }
         ensures taken { λ r. ⌜ (isOk r ≡ true → meaning (now (self .exit)) ≡ tables n (now (next .entry)) (now (prev .entry)) (now (twin .entry))) ⌝ }
@@ -42,7 +48,12 @@ impl<'a> TableSkin<'a> {
         if let Some(h) = first_fault(n, next, prev, twin) {
             return Err(Fault::Broken(h));
         }
-        *self = TableSkin { n, next, prev, twin };
+        *self = TableSkin {
+            n,
+            next,
+            prev,
+            twin,
+        };
         Ok(())
     }
 }
@@ -63,14 +74,26 @@ pub impl<'a> Skin for TableSkin<'a> as TableSkinSkin {
     }
 
     fn next(&self, h: u32) -> Option<u32> {
-        if h < self.n { Some(self.next[h as usize]) } else { None }
+        if h < self.n {
+            Some(self.next[h as usize])
+        } else {
+            None
+        }
     }
 
     fn prev(&self, h: u32) -> Option<u32> {
-        if h < self.n { Some(self.prev[h as usize]) } else { None }
+        if h < self.n {
+            Some(self.prev[h as usize])
+        } else {
+            None
+        }
     }
 
     fn twin(&self, h: u32) -> Option<u32> {
-        if h < self.n { Some(self.twin[h as usize]) } else { None }
+        if h < self.n {
+            Some(self.twin[h as usize])
+        } else {
+            None
+        }
     }
 }

@@ -1,6 +1,3 @@
-use mathlib.Core.Path.{_≡_}
-use Prim.Native.Nat.{ℕ, _<_, _≤_}
-use lib.ListN.{length, getD}
 use Rattle.closing.specs.Spread.{Spread}
 use Rattle.closing.proofs.points.spread.Given as given
 

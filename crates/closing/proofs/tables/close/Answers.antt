@@ -1,15 +1,11 @@
-use mathlib.Core.Path.{_≡_, refl, sym, ap, _∙_, subst}
-use mathlib.Core.Bool.{Bool, true, false, _||_}
-use mathlib.Core.Logic.{_⊎_, inl, inr, ⊎-elim}
-use Prim.Native.Nat.{ℕ, _<_, _≤_}
+use mathlib.Core.Path.{refl, sym, ap, _∙_, subst}
+use mathlib.Core.Logic.{inl, inr}
 use native.Mathlib.Omega.{arith}
 use mathlib.Core.List.{_++_}
-use lib.ListN.{length, getD, drop}
-use Rattle.std.specs.declared.option.Option.the-variants.{Some, None}
+use lib.ListN.{drop}
 use Rattle.std.specs.declared.result.Result.the-variants.{Ok, Err}
 use Rattle.std.proofs.shelf.Results.{err-from-errBy}
-use Rattle.closing.specs.declared.fault.SkinFault.the-variants.{Face, TooMany, Short}
-use Rattle.closing.specs.Numbering.{total}
+use Rattle.closing.specs.declared.fault.SkinFault.the-variants.{Face, TooMany}
 use Rattle.closing.specs.Sheet.{sheet, darts}
 use Rattle.closing.specs.Closed.{Closed}
 use Rattle.closing.specs.Causes.{places, Lacks}

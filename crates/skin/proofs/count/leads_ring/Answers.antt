@@ -23,9 +23,14 @@ pub loop-c-holds : need.loop-c-holds
 loop-c-holds g c =
     let m = mesh (g .S·Skin) (c .args .skin .now) in
     let r = along-rounds (c .args .ring) m (g .S·Skin .lawful (c .args .skin .now)) in
-    let a = answered _ _ _ _ (c .in-Some .ensures tt) in
-    (a .0, rw (a .1) (r .below (c .args .h) (a .0)), omega arith, ring-pos (along (c .args .ring) m) (c .args .h),
-     walked-one r (c .args .h) _ (a .1), ap (λ b. b && true) (le-leb (c .args .h) (c .args .h) (omega arith)))
+    let a = answered _ _ _ _ (c .in-Some .ensures tt) in (
+      a .0,
+      rw (a .1) (r .below (c .args .h) (a .0)),
+      omega arith,
+      ring-pos (along (c .args .ring) m) (c .args .h),
+      walked-one r (c .args .h) _ (a .1),
+      ap (λ b. b && true) (le-leb (c .args .h) (c .args .h) (omega arith)),
+    )
 
 -- the loop has not been all round
 more : (g : given.Over) (c : need.After-unwrap-c g) → c .loop-c .k < period (along (c .args .ring) (mesh (g .S·Skin) (c .args .skin .now))) (c .args .h)
@@ -57,10 +62,14 @@ loop-c-again g c =
     let h = c .args .h in
     let k = c .loop-c .k in
     let a = unwrapped _ _ _ _ (c .follow-in-loop-c .ensures) (c .unwrap-c .ensures) in
-    let low : leb h (times k f h) ≡ true = le-leb h (times k f h) (omega (arith, c .loop-c-test .taken, inv .4)) in
-    (inv .0, rw (a .1) (r .below (c .loop-c .c) (inv .1)), omega arith, omega (arith, more g c),
-     walked r h k (c .loop-c .c) _ (inv .4) (a .1),
-     ap (λ j. floor h (orbit j f h)) (add-one k) ∙ floor-snoc h k f h ∙ ap (λ b. b && leb h (times k f h)) (inv .5) ∙ ap (λ b. true && b) low)
+    let low : leb h (times k f h) ≡ true = le-leb h (times k f h) (omega (arith, c .loop-c-test .taken, inv .4)) in (
+      inv .0,
+      rw (a .1) (r .below (c .loop-c .c) (inv .1)),
+      omega arith,
+      omega (arith, more g c),
+      walked r h k (c .loop-c .c) _ (inv .4) (a .1),
+      ap (λ j. floor h (orbit j f h)) (add-one k) ∙ floor-snoc h k f h ∙ ap (λ b. b && leb h (times k f h)) (inv .5) ∙ ap (λ b. true && b) low,
+    )
 
 pub returns : need.returns
 returns g c =
@@ -72,15 +81,15 @@ returns g c =
     let inside : ltb h (m .n) ≡ true = lt-ltb h (m .n) (inv .0) in
     ⊎-elim
     (λ (e : c .loop-c .c ≡ h).
-      let round = all-round r h (c .loop-c .k) (c .loop-c .c) (inv .2) (inv .3) (inv .4) e in
-      let lead : leads f h ≡ true = ap (floor h) (ring-orbit f h ∙ ap (λ j. orbit j f h) (sym round)) ∙ inv .5 in
-      rw (eq-eqb (c .loop-c .c) h e, inside, lead) refl)
+    let round = all-round r h (c .loop-c .k) (c .loop-c .c) (inv .2) (inv .3) (inv .4) e in
+    let lead : leads f h ≡ true = ap (floor h) (ring-orbit f h ∙ ap (λ j. orbit j f h) (sym round)) ∙ inv .5 in
+    rw (eq-eqb (c .loop-c .c) h e, inside, lead) refl)
     (λ (e : c .loop-c .c ≡ h → ⊥).
-      let low : c .loop-c .c < h = omega (arith, c .loop-c-test .left) in
-      let lead : leads f h ≡ false =
-          ⊎-elim
-          (λ t. absurd (omega (arith, decides-leads f h (r .short h (inv .0)) .0 t (c .loop-c .k), inv .4)))
-          (λ t. t)
-          (cases-bool (leads f h)) in
-      rw (ne-eqb (c .loop-c .c) h e, inside, lead) refl)
+    let low : c .loop-c .c < h = omega (arith, c .loop-c-test .left) in
+    let lead : leads f h ≡ false =
+    ⊎-elim
+    (λ t. absurd (omega (arith, decides-leads f h (r .short h (inv .0)) .0 t (c .loop-c .k), inv .4)))
+    (λ t. t)
+    (cases-bool (leads f h)) in
+    rw (ne-eqb (c .loop-c .c) h e, inside, lead) refl)
     (cases-eq (c .loop-c .c) h)

@@ -1,8 +1,5 @@
 use mathlib.Core.Path.{_≡_, sym, ap, subst, _∙_}
-use mathlib.Core.Bool.{true, _&&_}
 use Prim.Native.Nat.{ℕ}
-use lib.Dec.{ltb}
-use Rattle.std.proofs.shelf.Tests.{lt-ltb}
 use native.Mathlib.Omega.{arith}
 use Rattle.mesh.specs.Count.{leads, rings, Classes}
 use Rattle.mesh.proofs.Leads.{count-none, count-le, count-yes, count-no}
@@ -10,6 +7,7 @@ use Rattle.mesh.proofs.Once.{classes}
 use Rattle.skin.specs.Skins.{mesh}
 use Rattle.skin.specs.Counts.{along}
 use Rattle.skin.proofs.Alongs.{along-rounds}
+use Rattle.skin.proofs.Calls.{of-dart}
 use Rattle.skin.proofs.count.ring_count.Needs as need
 use Rattle.skin.proofs.count.ring_count.Needs.{then-leads-ring, else-leads-ring}
 
@@ -23,11 +21,10 @@ pub loop-h-again : need.loop-h-again
 loop-h-again g c =
     let m = mesh (g .S·Skin) (c .args .skin .now) in
     let p = leads (along (c .args .ring) m) in
-    let b : ltb (c .loop-h .h) (m .n) ≡ true = lt-ltb (c .loop-h .h) (m .n) (omega arith) in
-    let said = ap (λ x. x && p (c .loop-h .h)) b in
+    let said = of-dart (m .n) (c .loop-h .h) (p (c .loop-h .h)) (omega arith) in
     elim (c .if-leads-ring .came) [
-      then-leads-ring w ↦ w .found-is ∙ count-yes p (c .loop-h .h) (c .loop-h .found) (c .loop-h .inv) (sym said ∙ sym (w .if-leads-ring .ensures tt))
-    | else-leads-ring w ↦ w .found-is ∙ count-no p (c .loop-h .h) (c .loop-h .found) (c .loop-h .inv) (sym said ∙ sym (w .if-leads-ring .ensures tt))
+      | then-leads-ring w ↦ w .found-is ∙ count-yes p (c .loop-h .h) (c .loop-h .found) (c .loop-h .inv) (sym said ∙ sym (w .if-leads-ring .ensures tt))
+      | else-leads-ring w ↦ w .found-is ∙ count-no p (c .loop-h .h) (c .loop-h .found) (c .loop-h .inv) (sym said ∙ sym (w .if-leads-ring .ensures tt))
     ]
 
 pub returns : need.returns

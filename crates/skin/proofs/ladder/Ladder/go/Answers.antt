@@ -33,12 +33,15 @@ down-again g c =
     let m = mesh (g .S·Skin) (s .base) in
     let ds = c .down .digits in
     let w = c .down .w in
-    let d = c .down .d in
-    (omega (arith, c .down .inv .0), length-set ds _ _ ∙ c .down .inv .1, level-less _ m _ I d e (c .down .inv .2),
-    ap (λ v. climb (set ds (I - 1) v) (I - 1) (s .count - (I - 1)) (act (level (I - 1) (s .bits) m) (c .under-w .result) (d / 4))) (c .digit .ensures)
-    ∙ ap (λ v. climb (set ds (I - 1) (way-digit w (d % 4))) (I - 1) (s .count - (I - 1)) (act (level (I - 1) (s .bits) m) v (d / 4))) (c .under-w .ensures)
-    ∙ down-turn m (g .S·Skin .lawful (s .base)) (s .bits) ds (I - 1) I (s .count) w d _ e (omega (arith, c .down .inv .0))
-      (omega (arith, c .down .inv .0, c .down .inv .1, s .few)) (c .down .inv .2) (c .down .inv .3))
+    let d = c .down .d in (
+      omega (arith, c .down .inv .0),
+      length-set ds _ _ ∙ c .down .inv .1,
+      level-less _ m _ I d e (c .down .inv .2),
+      ap (λ v. climb (set ds (I - 1) v) (I - 1) (s .count - (I - 1)) (act (level (I - 1) (s .bits) m) (c .under-w .result) (d / 4))) (c .digit .ensures)
+          ∙ ap (λ v. climb (set ds (I - 1) (way-digit w (d % 4))) (I - 1) (s .count - (I - 1)) (act (level (I - 1) (s .bits) m) v (d / 4))) (c .under-w .ensures)
+          ∙ down-turn m (g .S·Skin .lawful (s .base)) (s .bits) ds (I - 1) I (s .count) w d _ e (omega (arith, c .down .inv .0))
+          (omega (arith, c .down .inv .0, c .down .inv .1, s .few)) (c .down .inv .2) (c .down .inv .3),
+    )
 
 pub returns-in-Break-x : need.returns-in-Break-x
 returns-in-Break-x g c =
@@ -51,12 +54,12 @@ landed g c =
     let s = c .args .self .now in
     let m = mesh (g .S·Skin) (s .base) in
     elim (c .if-i-eq0 .came) [
-      then-i-eq0·in-Continue-x w ↦ w .x-is ∙ at-foot m (s .bits) (c .down .i) (c .down .w) (c .down .d) _ (w .if-i-eq0 .taken) (answered _ _ _ _ (w .in-Continue-x .ensures tt) .1)
-    | else-i-eq0 w ↦ w .x-is ∙ at-rest (level (c .down .i) (s .bits) m) (c .down .w) (c .down .d)
-        (elim (c .down-test .came) [
-          then-down-test·else-not-stays v ↦ sym (v .stays .ensures) ∙ v .if-not-stays .left
-        | else-down-test v ↦ absurd (omega (arith, v .down-test .left, w .if-i-eq0 .left))
-        ])
+      | then-i-eq0·in-Continue-x w ↦ w .x-is ∙ at-foot m (s .bits) (c .down .i) (c .down .w) (c .down .d) _ (w .if-i-eq0 .taken) (answered _ _ _ _ (w .in-Continue-x .ensures tt) .1)
+      | else-i-eq0 w ↦ w .x-is ∙ at-rest (level (c .down .i) (s .bits) m) (c .down .w) (c .down .d)
+          (elim (c .down-test .came) [
+            | then-down-test·else-not-stays v ↦ sym (v .stays .ensures) ∙ v .if-not-stays .left
+            | else-down-test v ↦ absurd (omega (arith, v .down-test .left, w .if-i-eq0 .left))
+          ])
     ]
 
 led : (g : given.Over) (c : Joined-i-eq0 g) →

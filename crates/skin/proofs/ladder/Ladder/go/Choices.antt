@@ -12,7 +12,7 @@ abbrev pub Inv-down : given.InvT-down
 Inv-down g l =
     (l .i ≤ l .self .count) × (length (l .digits) ≡ 8) × (l .d < level (l .i) (l .self .bits) (mesh (g .S·Skin) (l .self .base)) .n)
     × (climb (l .digits) (l .i) (l .self .count - l .i) (act (level (l .i) (l .self .bits) (mesh (g .S·Skin) (l .self .base))) (l .w) (l .d))
-      ≡ act (level (l .self .count) (l .self .bits) (mesh (g .S·Skin) (l .self .base))) (l .entry .w) (l .h))
+    ≡ act (level (l .self .count) (l .self .bits) (mesh (g .S·Skin) (l .self .base))) (l .entry .w) (l .h))
 
 abbrev pub μ-down : given.MeasureT-down
 μ-down g l = l .i

@@ -12,14 +12,13 @@ use Rattle.skin.proofs.Adopted.{exact}
 use Rattle.skin.proofs.table.TableSkin.adopt.Needs as need
 
 pub ghost-self : need.ghost-self
-ghost-self c =
-    (
-      (omega arith, omega arith, omega arith),
-      (
-        ∣ lawful-from-none (tables (c .args .n) (c .args .next .now) (c .args .prev .now) (c .args .twin .now)) (omega arith) (sym (c .in-rest .ensures tt)) ∣₁,
-        tt,
-      ),
-    )
+ghost-self c = (
+  (omega arith, omega arith, omega arith),
+  (
+    ∣ lawful-from-none (tables (c .args .n) (c .args .next .now) (c .args .prev .now) (c .args .twin .now)) (omega arith) (sym (c .in-rest .ensures tt)) ∣₁,
+    tt,
+  ),
+)
 
 pub returns-in-Some : need.returns-in-Some
 returns-in-Some c =

@@ -1,0 +1,5 @@
+pub mod Scaling
+pub mod Whole
+pub mod Meaning
+pub mod Back
+pub mod Outcomes

@@ -1,0 +1,5 @@
+pub mod Rule
+pub mod Scale
+pub mod Refusals
+pub mod Orders
+pub mod Figures

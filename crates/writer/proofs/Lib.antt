@@ -1,0 +1,11 @@
+pub mod Writes
+pub mod Leaders
+pub mod Numbering
+pub mod ByLine
+pub mod Shares
+pub mod Limits
+pub mod Bounds
+pub mod Tells
+pub mod ReadBack
+pub mod Again
+pub mod Whole

@@ -1,0 +1,9 @@
+pub mod Buffer
+pub mod Points
+pub mod Listing
+pub mod Walk
+pub mod Told
+pub mod Drawn
+pub mod Refusals
+pub mod Outcome
+pub mod Turned

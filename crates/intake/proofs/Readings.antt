@@ -2,7 +2,7 @@
 use mathlib.Core.Path.{_≡_, refl, sym, ap, subst, _∙_}
 use mathlib.Core.Bool.{Bool, true, false, cond}
 use mathlib.Core.List.{List, _++_, map, append-nil}
-use Prim.Native.Nat.{ℕ, _≤_, _<_, _/_, min}
+use Prim.Native.Nat.{ℕ, _≤_, _<_, min}
 use native.Mathlib.Omega.{arith}
 use lib.Dec.{ltb}
 use lib.ListN.{length, drop, length-map}
@@ -12,10 +12,10 @@ use Rattle.std.specs.declared.result.Result.the-variants.{Ok, Err}
 use Rattle.std.proofs.shelf.Lists.{drop-all}
 use Rattle.std.proofs.shelf.Tests.{le-ltb}
 use Rattle.mesh.specs.Mesh.{Mesh, Lawful, Same}
-use Rattle.mesh.proofs.Leads.{vertices-same, faces-same}
 use Rattle.skin.specs.Counts.{counting}
 use Rattle.skin.specs.declared.count.Counts.{Counts}
 use Rattle.skin.specs.Meaning.{meaning}
+use Rattle.skin.proofs.Counted.{counting-same}
 use Rattle.skin.specs.declared.table.TableSkin.{TableSkin}
 use Rattle.sheet.specs.declared.fault.TextFault.{TextFault}
 use Rattle.sheet.specs.declared.record.Sizes.{Sizes}
@@ -48,9 +48,6 @@ room s t p f c =
     let b = le-ltb (length (t .lengths)) (length (s .faces)) (omega arith) in
     let d = le-ltb (length (t .corners)) (text.cornerCount (s .faces)) (omega arith) in
     rw (a, b, d)
-
-pub counting-same : (a b : Mesh) → Lawful a → Same a b → counting a ≡ counting b
-counting-same a b l s = λ i. record { vertices = vertices-same a b l s i; edges = s .n i / 2; faces = faces-same a b l s i }
 
 module _ (bytes : List ℕ) (n : Sizes) (t u : Tables) (r : Result Sizes TextFault)
     (h : sized (judge text.sheet bytes 0) ≡ Ok n) (o : ReadsSheet bytes 0 t r u)

@@ -14,7 +14,8 @@ use Rattle.std.specs.declared.result.Result.{Result}
 use Rattle.std.specs.declared.result.Result.the-variants.{Ok, Err}
 use Rattle.mesh.specs.Mesh.{Mesh, Lawful, Same, dual, ring, turn, among}
 use Rattle.mesh.specs.Count.{split, faces}
-use Rattle.mesh.proofs.Leads.{faces-same, vertices-same}
+use Rattle.mesh.proofs.Leads.{faces-same}
+use Rattle.skin.proofs.Counted.{counting-same}
 use Rattle.mesh.proofs.Rounds.{face-rounds, vertex-rounds, ring-inside}
 use Rattle.skin.specs.Counts.{counting}
 use Rattle.skin.specs.declared.skin.Skin.{Ghosts}
@@ -282,9 +283,6 @@ count-ok m len c e = go (leb (m .n) len) e
     go : (b : Bool) → Ok c ≡ cond b (Ok (counting m)) (Err (Short (m .n))) → c ≡ counting m
     go true e = cc
     go false e = let z : _≡_ {A = ℕ} 0 1 = cc in absurd (omega arith)
-
-counting-same : (a b : Mesh) → Lawful a → Same a b → counting a ≡ counting b
-counting-same a b l s j = record { vertices = vertices-same a b l s j; edges = s .n j / 2; faces = faces-same a b l s j }
 
 module _ {S A X P Q : Type 0} (k : Ghosts S) (kd : Kind A X P Q) where
   pub count-done : (w : Workpiece S) (t : List X) (r : Result Counts WorkFault) → Lawful (work k w .carrier)

@@ -1,4 +1,6 @@
 // From a sheet to a skin: closing numbers its darts and fills the dart tables, spreading gives each dart its point.
+#![tactic(auto)]
+
 mod edges;
 mod faces;
 pub mod fault;

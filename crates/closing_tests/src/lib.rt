@@ -1,4 +1,6 @@
 // Tests of closing and spreading: what is left in the tables, and the refusals that no example sheet shows.
+#![tactic(auto)]
+
 #[cfg(test)]
 mod tests {
     use closing::fault::SkinFault;

@@ -1,4 +1,6 @@
 // The program intake: reads sheets, judges each and prints what it found.
+#![tactic(auto)]
+
 mod fault;
 mod report;
 mod survey;

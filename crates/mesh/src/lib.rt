@@ -1,4 +1,6 @@
 // Meshes of darts: the limit on darts, and the worked examples of counting (what a mesh is stands in specs/).
+#![tactic(auto)]
+
 ghost use Rattle.mesh.specs.Examples.{Figures};
 
 // The darts that a mesh may have at most.

@@ -1,4 +1,6 @@
 // Millimetre orders: what a designer asks for at a vertex, and the point that an order gives it.
+#![tactic(auto)]
+
 ghost use Rattle.std.specs.Prelude.{◌≡◌};
 ghost use Rattle.order.specs.Rule.{TheOne};
 ghost use Rattle.order.specs.Orders.{MeasuredAt, PutTo, RaisedBy, Ordered};

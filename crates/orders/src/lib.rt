@@ -1,4 +1,6 @@
 // Orders on a workpiece of solids: an accepted order is the place of the point that it gives its vertex.
+#![tactic(auto)]
+
 ghost use Rattle.orders.specs.Orders.{OrderDone};
 
 pub mod fault;

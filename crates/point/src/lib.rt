@@ -1,4 +1,6 @@
 // Kinds of points: what a table of points holds, how points are summed, and their means.
+#![tactic(auto)]
+
 ghost use Rattle.point.specs.Figures.{Figures};
 
 pub mod fault;

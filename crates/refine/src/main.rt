@@ -1,5 +1,7 @@
 // The program refine: workpieces over a torus and over dart tables, of solids and of pull rows, each split, averaged, pulled and averaged
 // again, with what every step answered; one whose refined sheet is printed; and one at full size.
+#![tactic(auto)]
+
 mod full;
 mod show;
 mod written;

@@ -1,4 +1,6 @@
 // How a call that declines is told: the number of the cause, the value that it returns, and the layer that declined.
+#![tactic(auto)]
+
 ghost use Rattle.std.specs.Prelude.{◌≡◌, Some};
 ghost use Rattle.refusal.specs.Lines.{word, line};
 

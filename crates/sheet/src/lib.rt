@@ -1,4 +1,6 @@
 // Sheets: their text, and how it is read into tables.
+#![tactic(auto)]
+
 pub mod fault;
 mod fill;
 pub mod job;

@@ -1,4 +1,6 @@
 // Tests of the reader at the edges of the form. They stand apart, since a crate with tests is proved twice.
+#![tactic(auto)]
+
 #[cfg(test)]
 mod tests {
     use point::solid::SolidRecord;

@@ -1,4 +1,6 @@
 // Skins: closed meshes of darts behind one interface, the skins that stand on their own, the layers over them, and the counting of rings.
+#![tactic(auto)]
+
 pub mod alike;
 pub mod count;
 pub mod dual;

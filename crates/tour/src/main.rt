@@ -1,4 +1,6 @@
 // A tour of the skins: each is walked, dart by dart, beside another that means the same, and their rings are counted.
+#![tactic(auto)]
+
 mod copy;
 mod nest;
 

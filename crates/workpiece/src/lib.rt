@@ -1,4 +1,6 @@
 // A workpiece: a skin that is split and averaged in place, with a table of points that stays true to its drawing.
+#![tactic(auto)]
+
 ghost use Rattle.workpiece.specs.Figures.{Figures};
 
 pub mod calls;

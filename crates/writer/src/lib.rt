@@ -1,4 +1,6 @@
 // Writing sheets: a skin and the points of its darts as text.
+#![tactic(auto)]
+
 mod bytes;
 pub mod fault;
 mod lines;

@@ -1,4 +1,6 @@
 // Tests of the writer on worked sheets. They stand apart, since a crate with tests is proved twice.
+#![tactic(auto)]
+
 #[cfg(test)]
 mod tests {
     use point::solid::SolidRecord;

@@ -3,7 +3,7 @@ use Rattle.std.proofs.Common.{◌≡◌, ℕ, suc, ◌<◌, ◌⊎◌, List, [],
 use borrow.Author.Differences.{ints}
 use Rattle.point.specs.Points.{coordinate, total}
 use Rattle.point.specs.Dealing.{Down, Raised, Shares}
-use Rattle.point.specs.row_whole.{times_lt_out}
+use Rattle.point.specs.Whole.{times_lt_out}
 
 -- ---- one weight
 abbrev Way : ℕ → ℤ → ℤ → Type 0

@@ -6,7 +6,7 @@ use borrow.Author.Differences.{ints, lt-true, lt-false}
 use Rattle.point.specs.Points.{coordinate, total, Near}
 use Rattle.point.specs.Range.{coordinate_limit, InRange, Summed}
 use Rattle.point.specs.Dealing.{row_whole, floor_of, leaves, gets, dealt, missing, Down, Raised, Shares}
-use Rattle.point.specs.row_whole.{times_is, times_sum, times_lt_out, floor_low, floor_high, floor_least, floor_most}
+use Rattle.point.specs.Whole.{times_is, times_sum, times_lt_out, floor_low, floor_high, floor_least, floor_most}
 
 -- one unit where a weight's division leaves a remainder
 abbrev left : ℕ → ℤ → ℕ

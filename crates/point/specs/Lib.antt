@@ -11,7 +11,7 @@ pub mod Kinds
 pub mod RowPoints
 pub mod MadeLemmas
 pub mod Listed
-pub mod row_whole
+pub mod Whole
 pub mod Deals
 pub mod SolidPoints
 pub mod Rounding

@@ -1,5 +1,5 @@
 -- Lists of coordinates: totals over points, and the bounds that they keep.
-use Rattle.std.specs.Prelude.{◌≡◌, ℕ, ◌+◌, ◌*◌, ◌<◌, ◌≤◌, List, [], ◌∷◌, map, length, ℤ, pos, ◌+ℤ◌, ◌*ℤ◌, ◌≤ℤ◌, refl}
+use Rattle.std.specs.Prelude.{◌≡◌, ℕ, ◌<◌, List, [], ◌∷◌, map, length, ℤ, pos, ◌+ℤ◌, ◌*ℤ◌, ◌≤ℤ◌, refl}
 use Rattle.std.proofs.Common.{sym, ap, ap₂, subst, ◌∙◌, ⊎_elim, arith}
 use Rattle.std.proofs.lemmas.Int.{ints}
 use Rattle.std.specs.List.{range_with_len}
@@ -8,7 +8,7 @@ use Rattle.std.proofs.lemmas.List.{get_or_past}
 use Rattle.std.proofs.lemmas.Bool.{cases_lt}
 use Rattle.point.specs.Range.{InRange, Summed}
 use Rattle.point.specs.Points.{Point, coordinate, total, totals, one_more, Each, Between}
-use Rattle.point.specs.row_whole.{times_is, times_more}
+use Rattle.point.specs.Whole.{times_is, times_more}
 
 -- the numbers of a point one by one are the point
 pub coordinates_are : (p : Point) (d : ℕ) → length p ≡ d → p ≡ map (coordinate p) (range_with_len 0 d)

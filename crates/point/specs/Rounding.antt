@@ -1,11 +1,11 @@
 -- The nearest whole number to a quotient, halves up.
-use Rattle.std.specs.Prelude.{ℕ, ◌+◌, ◌*◌, ◌<◌, ◌≤◌, ℤ, pos, ◌+ℤ◌, ◌*ℤ◌, neg_ℤ, ◌≤ℤ◌, ◌<ℤ◌}
+use Rattle.std.specs.Prelude.{ℕ, ◌*◌, ◌<◌, ℤ, pos, ◌+ℤ◌, ◌*ℤ◌, neg_ℤ, ◌≤ℤ◌, ◌<ℤ◌}
 use Rattle.std.proofs.Common.{arith}
 use Rattle.std.proofs.Math.IntN.{*ℤ_comm}
 use Rattle.std.proofs.lemmas.Int.{ints}
 use Rattle.point.specs.Range.{coordinate_limit, InRange, Summed}
 use Rattle.point.specs.Solids.{half_up, Nearest}
-use Rattle.point.specs.row_whole.{times_is, times_sum, times_times, times_lt_out, floor_low, floor_high, floor_least}
+use Rattle.point.specs.Whole.{times_is, times_sum, times_times, times_lt_out, floor_low, floor_high, floor_least}
 
 module _ (k : ℕ) (h : 0 < k) (s : ℤ) where
   abbrev t : ℤ

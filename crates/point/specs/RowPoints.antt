@@ -33,8 +33,8 @@ pub fitted_is : (zs : List ℤ) → length zs ≡ handle_count → zs ≡ fitted
 fitted_is zs l = coordinates_are zs handle_count l
 
 -- the weights of a row make that row
-pub row_at : (p : PullRow) (zs : List ℤ) → p.weights ≡ zs → p ≡ row_at zs
-row_at p zs e = go (row_fault (fitted zs)) refl
+pub row_at_lem : (p : PullRow) (zs : List ℤ) → p.weights ≡ zs → p ≡ row_at zs
+row_at_lem p zs e = go (row_fault (fitted zs)) refl
   where
     same : p.weights ≡ fitted zs
     same = fitted_is p.weights p.long ∙ ap fitted e
@@ -74,7 +74,7 @@ module _ (k : ℕ) (ts : List ℤ) (h : 0 < k) (l : length ts ≡ handle_count) 
   dealt-row = record { weights = ws; long = ws-long; ok = ws-in-range; whole = dealt_whole k ts h e }
 
   pub mean-numbers : numbers_of (mean_by k ts) ≡ dealt k (missing k ts) ts
-  mean-numbers = ap numbers_of (sym (row_at dealt-row ws refl))
+  mean-numbers = ap numbers_of (sym (row_at_lem dealt-row ws refl))
 
   pub mean-shares : Shares k ts (numbers_of (mean_by k ts))
   mean-shares = subst (Shares k ts) (sym mean-numbers) (dealt_shares k ts h e)
@@ -86,7 +86,7 @@ module _ (k : ℕ) (ts : List ℤ) (h : 0 < k) (l : length ts ≡ handle_count) 
       subst P (sym (ap (λ (zs : List ℤ). coordinate zs i) mean-numbers ∙ d.1)) (w d.0)
 
 pub mean_made : (s : PullSum) (p : PullRow) → 0 < s.count → p.weights ≡ dealt s.count (missing s.count s.totals) s.totals → Some p ≡ mean_answer mean_by s.count (sums_of s)
-mean_made s p h e = ap Some (row_at p _ e) ∙ sym (cond-false (s.count == 0) None (Some (mean_by s.count (sums_of s))) (ne_eqb s.count 0 (λ z. omega arith)))
+mean_made s p h e = ap Some (row_at_lem p _ e) ∙ sym (cond-false (s.count == 0) None (Some (mean_by s.count (sums_of s))) (ne_eqb s.count 0 (λ z. omega arith)))
 
 pub answer_shares : (s : PullSum) (p : PullRow) → 0 < s.count → mean_answer mean_by s.count (sums_of s) ≡ Some p → Shares s.count (sums_of s) (numbers_of p)
 answer_shares s p h e =

@@ -1,5 +1,5 @@
 -- Points of a solid: when two are the same, and the laws of the kind.
-use Rattle.std.specs.Prelude.{◌≡◌, ℕ, zero, suc, ◌<◌, ◌≤◌, List, map, length, ℤ, ◌≤ℤ◌, Some, None, Option, ◌==◌, refl}
+use Rattle.std.specs.Prelude.{◌≡◌, ℕ, zero, suc, ◌<◌, List, map, length, ℤ, ◌≤ℤ◌, Some, None, Option, ◌==◌, refl}
 use Rattle.std.proofs.Common.{sym, ap, subst, ◌∙◌, arith, lit≤, ne_eqb}
 use mathlib.Core.HLevel.{is_prop→PathP}
 use Rattle.std.proofs.Math.Bridge.{le_prop}

@@ -1,5 +1,5 @@
 -- The solid kind: x, y and z, each on its own; the mean goes to the nearest whole number, halves up.
-use Rattle.std.specs.Prelude.{◌≡◌, ℕ, ◌*◌, ◌<◌, ◌≤◌, List, [], ◌∷◌, ℤ, pos, ◌+ℤ◌, ◌*ℤ◌, ◌≤ℤ◌, Some, None, Option, refl}
+use Rattle.std.specs.Prelude.{◌≡◌, ℕ, ◌*◌, ◌<◌, List, [], ◌∷◌, ℤ, pos, ◌+ℤ◌, ◌*ℤ◌, ◌≤ℤ◌, Some, None, Option, refl}
 use Rattle.std.proofs.Common.{lit≤}
 use Rattle.std.specs.Int.{int_div_euclid}
 use Rattle.point.specs.declared.fault.PointFault.{PointFault}

@@ -1,5 +1,5 @@
 -- Whole numbers: multiples by a natural, and the floor of a quotient.
-use Rattle.std.specs.Prelude.{◌≡◌, ℕ, suc, ◌+◌, ◌-◌, ◌*◌, ◌/◌, ◌<◌, ◌≤◌, ℤ, pos, negsuc, ◌+ℤ◌, ◌*ℤ◌, ◌≤ℤ◌, ◌<ℤ◌}
+use Rattle.std.specs.Prelude.{◌≡◌, ℕ, suc, ◌+◌, ◌*◌, ◌/◌, ◌<◌, ℤ, pos, negsuc, ◌+ℤ◌, ◌*ℤ◌, ◌≤ℤ◌, ◌<ℤ◌}
 use Rattle.std.proofs.Common.{ap, arith, mul-add, mul_assoc, mul-suc, suc-mul, mod-lt}
 use Rattle.std.proofs.Math.Nat.{lt_of_mul-lt-mul_left, div-add-mod}
 use borrow.Author.Differences.{up, down, product_is, sum_is_lem, lt_out, at_most_in, below_in, same_in, ints}

@@ -4,7 +4,7 @@ ghost use Rattle.point.specs.Range.{full_count, InRange, Summed};
 ghost use Rattle.point.specs.Points.{mean_answer};
 ghost use Rattle.point.specs.Made.{range_fault, Makes};
 ghost use Rattle.point.specs.Solids.{three, count_of, numbers_of, sums_of, meant_by, mean_by, half_up, NearestEach};
-ghost use Rattle.point.specs.SolidPoints.{solid-laws};
+ghost use Rattle.point.specs.SolidPoints.{solid_laws};
 ghost use Rattle.std.proofs.Common.{rules};
 
 use crate::fault::PointFault;
@@ -90,7 +90,7 @@ impl PointKind for Solid {
 
     ghost mean = { mean_by };
 
-    ghost lawful = { solid-laws };
+    ghost lawful = { solid_laws };
 
     ghost counted = { Prim.search rules };
 

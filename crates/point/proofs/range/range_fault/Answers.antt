@@ -24,8 +24,8 @@ loop-i-preserved c =
     let h : InRange (coordinate zs i) = omega (arith, ap nat_abs (to_z-of_z w32 (coordinate zs i) f)) in
     sym (passes i zs c.loop-i-test.true h) ∙ c.loop-i.invariant
 
-pub returns-then-unsigned-abs-gt-LIMIT : goal.returns-then-unsigned-abs-gt-LIMIT
-returns-then-unsigned-abs-gt-LIMIT c =
+pub returns-then-unsigned_abs-gt-LIMIT : goal.returns-then-unsigned_abs-gt-LIMIT
+returns-then-unsigned_abs-gt-LIMIT c =
     let zs = c.args.numbers.now in
     let i = c.loop-i.i in
     let f : SFits w32 (coordinate zs i) = search rules in

@@ -12,9 +12,9 @@ returns g c =
     record {
       answer = search rules;
       rings = record {
-        vertices = c.ring-count.ensures.classes;
+        vertices = c.ring_count.ensures.classes;
         edges = ap (λ x. 2 * (x / 2)) c.n.ensures ∙ even m l;
-        faces = c.ring-count-2.ensures.classes;
+        faces = c.ring_count-2.ensures.classes;
         once = λ h b. (once m.n m.next l.next_below l.faces_short h b, once m.n _ (turn_below m l) l.vertices_short h b);
       };
     }

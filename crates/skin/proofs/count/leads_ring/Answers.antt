@@ -39,8 +39,8 @@ loop-c-smaller g c =
     let r = along_rounds c.args.ring m (g.S.Skin.lawful c.args.skin.now) in
     omega (arith, r.short c.args.h c.loop-c.invariant.0, more g c)
 
-pub overflow-add-k : goal.overflow-add-k
-overflow-add-k g c =
+pub overflow_add-k : goal.overflow_add-k
+overflow_add-k g c =
     let m = mesh g.S.Skin c.args.skin.now in
     let r = along_rounds c.args.ring m (g.S.Skin.lawful c.args.skin.now) in
     let k : c.loop-c.k ≤ 64 = omega (arith, r.short c.args.h c.loop-c.invariant.0, c.loop-c.invariant.3) in

@@ -7,22 +7,22 @@ use Rattle.skin.specs.Counts.{along}
 use Rattle.skin.proofs.Alongs.{along_rounds}
 use Rattle.skin.proofs.Calls.{of_dart}
 use Rattle.skin.proofs.count.ring_count.Goals as goal
-use Rattle.skin.proofs.count.ring_count.Goals.{then-leads-ring, else-leads-ring}
+use Rattle.skin.proofs.count.ring_count.Goals.{then-leads_ring, else-leads_ring}
 
 pub loop-h-init : goal.loop-h-init
 loop-h-init g c = count_none (leads (along c.args.ring (mesh g.S.Skin c.args.skin.now)))
 
-pub overflow-add-found : goal.overflow-add-found
-overflow-add-found g c = omega (arith, count_le (leads (along c.args.ring (mesh g.S.Skin c.args.skin.now))) c.loop-h.h, c.loop-h.invariant, c.loop-h-test.true, c.n-n.type-inv)
+pub overflow_add-found : goal.overflow_add-found
+overflow_add-found g c = omega (arith, count_le (leads (along c.args.ring (mesh g.S.Skin c.args.skin.now))) c.loop-h.h, c.loop-h.invariant, c.loop-h-test.true, c.n-n.type_inv)
 
 pub loop-h-preserved : goal.loop-h-preserved
 loop-h-preserved g c =
     let m = mesh g.S.Skin c.args.skin.now in
     let p = leads (along c.args.ring m) in
     let said = of_dart m.n c.loop-h.h (p c.loop-h.h) (omega arith) in
-    elim c.if-leads-ring.branch [
-      | then-leads-ring w ↦ w.found-is ∙ count_yes p c.loop-h.h c.loop-h.found c.loop-h.invariant (sym said ∙ sym w.if-leads-ring.ensures)
-      | else-leads-ring w ↦ w.found-is ∙ count_no p c.loop-h.h c.loop-h.found c.loop-h.invariant (sym said ∙ sym w.if-leads-ring.ensures)
+    elim c.if-leads_ring.branch [
+      | then-leads_ring w ↦ w.found-is ∙ count_yes p c.loop-h.h c.loop-h.found c.loop-h.invariant (sym said ∙ sym w.if-leads_ring.ensures)
+      | else-leads_ring w ↦ w.found-is ∙ count_no p c.loop-h.h c.loop-h.found c.loop-h.invariant (sym said ∙ sym w.if-leads_ring.ensures)
     ]
 
 pub returns : goal.returns

@@ -22,16 +22,16 @@ short s t floors h f e = (
 units : (t : ℤ) (m : ℕ) → t +ℤ pos m ≡ row_whole → m ≤ handle_count → to_z w64 (of_z w64 (row_whole -ℤ to_z w64 (of_z w64 t))) ≡ pos m
 units t m e l = omega (arith, ints)
 
-pub overflow-sub-missing : goal.overflow-sub-missing
-overflow-sub-missing c =
+pub overflow_sub-missing : goal.overflow_sub-missing
+overflow_sub-missing c =
     let s = c.args.self.now in
-    let k = short s c.row_total.result c.floor-means-floors.result (omega arith) c.floor-means-floors.ensures c.row_total.ensures in
+    let k = short s c.row_total.result c.floor_means-floors.result (omega arith) c.floor_means-floors.ensures c.row_total.ensures in
     omega (arith, ints, k.0, k.1)
 
-pub overflow-cast-missing-2 : goal.overflow-cast-missing-2
-overflow-cast-missing-2 c =
+pub overflow_cast-missing-2 : goal.overflow_cast-missing-2
+overflow_cast-missing-2 c =
     let s = c.args.self.now in
-    let k = short s c.row_total.result c.floor-means-floors.result (omega arith) c.floor-means-floors.ensures c.row_total.ensures in
+    let k = short s c.row_total.result c.floor_means-floors.result (omega arith) c.floor_means-floors.ensures c.row_total.ensures in
     let e = sym (units c.row_total.result (missing s.count s.totals) k.0 k.1) in
     (subst (λ (z : ℤ). T (non_neg z)) e tt, subst (λ (z : ℤ). Fits w32 (nat_abs z)) e (record { fits = omega (arith, k.1) }))
 
@@ -40,23 +40,22 @@ weights_are s t floors ws h f e w =
     let k = short s t floors h f e in
     w ∙ ap (λ (z : ℤ). dealt s.count (nat_abs z) s.totals) (units t (missing s.count s.totals) k.0 k.1)
 
-pub invariant-of-result : goal.invariant-of-result
-invariant-of-result c =
+pub invariant_of-result : goal.invariant_of-result
+invariant_of-result c =
     let s = c.args.self.now in
     let h : 0 < s.count = omega arith in
-    let e = weights_are s c.row_total.result c.floor-means-floors.result c.deal-weights.result h c.floor-means-floors.ensures c.row_total.ensures c.deal-weights.ensures in (
-      ap length e ∙ ws-long s.count s.totals h s.long s.ok s.whole,
-      (
-        subst (λ (ws : List ℤ). (i : ℕ) → InRange (coordinate ws i)) (sym e) (ws-in-range s.count s.totals h s.long s.ok s.whole),
-        (ap total e ∙ dealt_whole s.count s.totals h s.whole, tt),
-      ),
-    )
+    let e = weights_are s c.row_total.result c.floor_means-floors.result c.deal-weights.result h c.floor_means-floors.ensures c.row_total.ensures c.deal-weights.ensures in
+    record {
+      long = ap length e ∙ ws-long s.count s.totals h s.long s.ok s.whole;
+      ok = subst (λ (ws : List ℤ). (i : ℕ) → InRange (coordinate ws i)) (sym e) (ws-in-range s.count s.totals h s.long s.ok s.whole);
+      whole = ap total e ∙ dealt_whole s.count s.totals h s.whole;
+    }
 
 pub returns : goal.returns
 returns c =
     let s = c.args.self.now in
     let h : 0 < s.count = omega arith in
-    let e = weights_are s c.row_total.result c.floor-means-floors.result c.deal-weights.result h c.floor-means-floors.ensures c.row_total.ensures c.deal-weights.ensures in
+    let e = weights_are s c.row_total.result c.floor_means-floors.result c.deal-weights.result h c.floor_means-floors.ensures c.row_total.ensures c.deal-weights.ensures in
     let value = mean_made s _ h e in
     record {
       value = value;

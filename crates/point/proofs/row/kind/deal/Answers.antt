@@ -14,8 +14,8 @@ use Rattle.point.proofs.row.kind.deal.Goals as goal
 floor_at : (k i : ℕ) (ws fs ts : List ℤ) → 0 < k → i < length ts → coordinate ws i ≡ coordinate fs i → fs ≡ map (floor_of k) ts → coordinate ws i ≡ floor_of k (coordinate ts i)
 floor_at k i ws fs ts h l e f = e ∙ ap (λ (zs : List ℤ). coordinate zs i) f ∙ get_or-map (floor_of k) ts i (pos 0) (pos 0) l
 
-pub overflow-add-weights : goal.overflow-add-weights
-overflow-add-weights c =
+pub overflow_add-weights : goal.overflow_add-weights
+overflow_add-weights c =
     let ts = c.args.totals.now in
     let i = c.loop-i.i in
     let k = c.args.count in

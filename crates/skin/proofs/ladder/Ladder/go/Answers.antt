@@ -7,13 +7,13 @@ use Rattle.mesh.proofs.RungLaws.{level_lawful, level_zero_n, level_less}
 use Rattle.skin.proofs.WayLaws.{act_below, climb, climb_none, at_foot, at_rest, up_step, up_bound, top, down_turn}
 use Rattle.skin.proofs.ladder.Ladder.go.Given as given
 use Rattle.skin.proofs.ladder.Ladder.go.Goals as goal
-use Rattle.skin.proofs.ladder.Ladder.go.Goals.{Joined-i-eq0, then-i-eq0+in-ok-x, else-i-eq0, then-down-test+else-not-stays, else-down-test}
+use Rattle.skin.proofs.ladder.Ladder.go.Goals.{Joined-i-eq0, then-i-eq0+in_ok-x, else-i-eq0, then-down-test+else-not-stays, else-down-test}
 
 pub down-init : goal.down-init
 down-init g c = (omega arith, refl, omega (arith, c.size.ensures), top _ _ _ _ (omega arith))
 
-pub offset-bounds-digits-i : goal.offset-bounds-digits-i
-offset-bounds-digits-i g c = omega (arith, c.args.self.now.few, c.down.invariant.0)
+pub offset_bounds-digits-i : goal.offset_bounds-digits-i
+offset_bounds-digits-i g c = omega (arith, c.args.self.now.few, c.down.invariant.0)
 
 pub bounds-digits-i : goal.bounds-digits-i
 bounds-digits-i g c = omega (arith, c.args.self.now.few, c.down.invariant.0)
@@ -40,9 +40,9 @@ down-preserved g c =
           (omega (arith, c.down.invariant.0, c.down.invariant.1, s.few)) c.down.invariant.2 c.down.invariant.3,
     )
 
-pub returns-in-err-x : goal.returns-in-err-x
-returns-in-err-x g c =
-    absurd (never_none _ _ _ (level_zero_n _ (mesh g.S.Skin c.args.self.now.base) _ _ (omega (arith, c.if-i-eq0.true)) c.down.invariant.2) c.in-err-x.ensures)
+pub returns-in_err-x : goal.returns-in_err-x
+returns-in_err-x g c =
+    absurd (never_none _ _ _ (level_zero_n _ (mesh g.S.Skin c.args.self.now.base) _ _ (omega (arith, c.if-i-eq0.true)) c.down.invariant.2) c.in_err-x.ensures)
 
 -- the way up starts where the way down led to
 landed : (g : given.Over) (c : Joined-i-eq0 g) →
@@ -51,7 +51,7 @@ landed g c =
     let s = c.args.self.now in
     let m = mesh g.S.Skin s.base in
     elim c.if-i-eq0.branch [
-      | then-i-eq0+in-ok-x w ↦ w.x-is ∙ at_foot m s.bits c.down.i c.down.w c.down.d _ w.if-i-eq0.true (answered _ _ _ _ w.in-ok-x.ensures).1
+      | then-i-eq0+in_ok-x w ↦ w.x-is ∙ at_foot m s.bits c.down.i c.down.w c.down.d _ w.if-i-eq0.true (answered _ _ _ _ w.in_ok-x.ensures).1
       | else-i-eq0 w ↦ w.x-is ∙ at_rest (level c.down.i s.bits m) c.down.w c.down.d
           (elim c.down-test.branch [
             | then-down-test+else-not-stays v ↦ sym v.stays.ensures ∙ v.if-not-stays.false
@@ -77,14 +77,14 @@ fits g c =
 pub up-init : goal.up-init
 up-init g c = (c.down.invariant.0, refl)
 
-pub overflow-mul-x : goal.overflow-mul-x
-overflow-mul-x g c =
-    let j = (goal.at.overflow-mul-x g c).Joined-i-eq0 in
+pub overflow_mul-x : goal.overflow_mul-x
+overflow_mul-x g c =
+    let j = (goal.at.overflow_mul-x g c).Joined-i-eq0 in
     omega (arith, up_bound _ _ _ _ _ c.up-test.true (c.up.invariant.1 ∙ led g j), fits g j)
 
-pub overflow-add-x : goal.overflow-add-x
-overflow-add-x g c =
-    let j = (goal.at.overflow-add-x g c).Joined-i-eq0 in
+pub overflow_add-x : goal.overflow_add-x
+overflow_add-x g c =
+    let j = (goal.at.overflow_add-x g c).Joined-i-eq0 in
     omega (arith, up_bound _ _ _ _ _ c.up-test.true (c.up.invariant.1 ∙ led g j), fits g j)
 
 pub up-preserved : goal.up-preserved

@@ -7,11 +7,11 @@ use Rattle.mesh.proofs.Judged.{lawful_from_none}
 use Rattle.skin.proofs.Adopted.{exact}
 use Rattle.skin.proofs.table.TableSkin.adopt.Goals as goal
 
-pub invariant-of-self : goal.invariant-of-self
-invariant-of-self c = (
+pub invariant_of-self : goal.invariant_of-self
+invariant_of-self c = (
   (omega arith, omega arith, omega arith),
   (
-    ∣ lawful_from_none (tables c.args.n c.args.next.now c.args.prev.now c.args.twin.now) (omega arith) (sym c.in-default.ensures) ∣₁,
+    ∣ lawful_from_none (tables c.args.n c.args.next.now c.args.prev.now c.args.twin.now) (omega arith) (sym c.in_default.ensures) ∣₁,
     tt,
   ),
 )

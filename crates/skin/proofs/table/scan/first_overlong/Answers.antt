@@ -3,13 +3,13 @@ use Rattle.mesh.specs.Tables.{tables, overlong}
 use Rattle.mesh.proofs.Smallest.{none_more, none_zero, some_at}
 use Rattle.skin.proofs.table.scan.first_overlong.Goals as goal
 
-pub returns-then-is-overlong : goal.returns-then-is-overlong
-returns-then-is-overlong c =
-    sym (some_at (overlong (tables c.args.n c.args.next.now c.args.prev.now c.args.twin.now)) c.loop-h.h c.loop-h.invariant (sym c.if-is-overlong.ensures) c.args.n (omega arith))
+pub returns-then-is_overlong : goal.returns-then-is_overlong
+returns-then-is_overlong c =
+    sym (some_at (overlong (tables c.args.n c.args.next.now c.args.prev.now c.args.twin.now)) c.loop-h.h c.loop-h.invariant (sym c.if-is_overlong.ensures) c.args.n (omega arith))
 
 pub loop-h-preserved : goal.loop-h-preserved
 loop-h-preserved c =
-    none_more (overlong (tables c.args.n c.args.next.now c.args.prev.now c.args.twin.now)) c.loop-h.h c.loop-h.invariant (sym c.if-is-overlong.ensures)
+    none_more (overlong (tables c.args.n c.args.next.now c.args.prev.now c.args.twin.now)) c.loop-h.h c.loop-h.invariant (sym c.if-is_overlong.ensures)
 
 pub loop-h-init : goal.loop-h-init
 loop-h-init c = none_zero _

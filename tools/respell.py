@@ -2,6 +2,8 @@
 """Respells the repository's own names in contracts, specs and proofs: words in snake case, types in camel case.
 
 usage: python3 tools/respell.py [--list]      at the top of the repository, once, right after the kit's own script
+       python3 tools/respell.py --inner       then once more: names that stand indented, in modules and below other declarations,
+                                              and names with dashes in clauses
 """
 import os
 import re
@@ -166,8 +168,42 @@ def part(text, a, b, word):
     return "".join(out)
 
 
+INNER = re.compile(r"^\s+(?:(?:pub|abbrev|unfoldable)\s+)*([a-z][\w']*(?:-[\w']+)+)(?:\s+[^\W\d][\w'\-]*)*\s+:\s", re.UNICODE)
+CLAUSED = re.compile(r"[^\W\d][\w']*(?:-[\w']+)+", re.UNICODE)
+
+
+def turn_inner(root):
+    """The second turn: each name with a dash that stands indented, and what the first turn left in clauses."""
+    own = set(os.listdir(os.path.join(root, "crates")))
+    said = {}
+    for path in files(root, (".antt",)):
+        if os.path.basename(path) in ("Answers.antt", "Invariants.antt"):
+            continue
+        for line in open(path, encoding="utf-8").read().split("\n"):
+            m = INNER.match(line)
+            if m:
+                said[m.group(1)] = m.group(1).replace("-", "_")
+    made = {n for n in said if MADE.search(n)}
+    names = set(declared(root)) | set(said.values())
+    for path in files(root, (".antt", ".rt")):
+        text = open(path, encoding="utf-8").read()
+        if path.endswith(".antt"):
+            new = turned(text, said, made, {}, False, foreign(text, own))
+        else:
+            new = "".join(
+                code if '"' in code else CLAUSED.sub(lambda m: m.group(0).replace("-", "_") if m.group(0).replace("-", "_") in names else m.group(0), code.partition("//")[0]) + "".join(code.partition("//")[1:])
+                for code in text.splitlines(keepends=True)
+            )
+        with open(path, "w", encoding="utf-8") as f:
+            f.write(new)
+    return said
+
+
 def main(argv):
     root = os.getcwd()
+    if argv == ["--inner"]:
+        print(len(turn_inner(root)), "names")
+        return 0
     names = declared(root)
     said, made = turns(names)
     if argv:

@@ -13,7 +13,7 @@ use Rattle.closing.specs.Causes.{Places, Lacks, Repeats, Wrong, rank, thing, For
 use Rattle.closing.specs.Verdict.{unless, judged, scant, verdict}
 use Rattle.closing.proofs.Numbering.{start_more}
 use Rattle.closing.proofs.Scans.{odd_not, odd_few, odd_many}
-use Rattle.closing.proofs.Turning.{steps-come}
+use Rattle.closing.proofs.Turning.{steps_come}
 use Rattle.closing.proofs.EdgeOrder.{met_from, unopposed}
 use Rattle.closing.proofs.VertexRings.{several_from}
 
@@ -44,8 +44,8 @@ module _ (s : Sheet) (p : Places) where
   is_made (Crowded v) w = refl
   is_made (Text e) w = absurd w
 
-  of-rank : (k : ℕ) (z : SkinFault) → rank z ≡ k → Wrong s p z → Wrong s p (made k (thing z))
-  of-rank k z e w = subst (λ (r : ℕ). Wrong s p (made r (thing z))) e (subst (Wrong s p) (sym (is_made z w)) w)
+  of_rank : (k : ℕ) (z : SkinFault) → rank z ≡ k → Wrong s p z → Wrong s p (made k (thing z))
+  of_rank k z e w = subst (λ (r : ℕ). Wrong s p (made r (thing z))) e (subst (Wrong s p) (sym (is_made z w)) w)
 
   -- what an answer tells where no cause of a rank below k is there
   abbrev From : ℕ → Result ℕ SkinFault → Type 0
@@ -56,7 +56,7 @@ module _ (s : Sheet) (p : Places) where
   found k y e w least = (
     w,
     λ z l v. ⊎_elim
-        (λ (q : rank z ≡ k). inr (e ∙ sym q, least (thing z) (of-rank k z q v)))
+        (λ (q : rank z ≡ k). inr (e ∙ sym q, least (thing z) (of_rank k z q v)))
         (λ ne. inl (let u : rank y < rank z = omega arith in u))
         (cases_eq (rank z) k),
   )
@@ -65,22 +65,22 @@ module _ (s : Sheet) (p : Places) where
   next k (Ok n) none f = (
     f.0,
     λ z l v. ⊎_elim
-        (λ (q : rank z ≡ k). none (thing z) (of-rank k z q v))
+        (λ (q : rank z ≡ k). none (thing z) (of_rank k z q v))
         (λ ne. f.1 z (omega arith) v) (cases_eq (rank z) k),
   )
   next k (Err y) none f = (
     f.0,
     λ z l v. ⊎_elim
-        (λ (q : rank z ≡ k). absurd (none (thing z) (of-rank k z q v)))
+        (λ (q : rank z ≡ k). absurd (none (thing z) (of_rank k z q v)))
         (λ ne. f.1 z (omega arith) v) (cases_eq (rank z) k),
   )
 
   -- a cause that names x: the smallest that q marks below n
-  by-smallest : (k : ℕ) (F : ℕ → SkinFault) → ((x : ℕ) → made k x ≡ F x) → ((x : ℕ) → rank (F x) ≡ k) → ((x : ℕ) → thing (F x) ≡ x) →
+  by_smallest : (k : ℕ) (F : ℕ → SkinFault) → ((x : ℕ) → made k x ≡ F x) → ((x : ℕ) → rank (F x) ≡ k) → ((x : ℕ) → thing (F x) ≡ x) →
       (n : ℕ) (q : ℕ → Bool) (r : Result ℕ SkinFault) → ((x : ℕ) → Least q n x → Wrong s p (F x)) → ((x : ℕ) → Wrong s p (F x) → (x < n) × (q x ≡ true)) →
       (smallest n q ≡ None → From (k + 1) r) → From k (unless F (smallest n q) r)
   unfolding unless
-  by-smallest k F is ranked names n q r means marks rest = go (smallest n q) refl
+  by_smallest k F is ranked names n q r means marks rest = go (smallest n q) refl
     where
       go : (o : Option ℕ) → smallest n q ≡ o → From k (unless F o r)
       go (Some x) e =
@@ -93,22 +93,22 @@ module _ (s : Sheet) (p : Places) where
 
   -- ---- the causes one by one
 
-  face-means : (f : ℕ) → Least (odd s.lengths) (length s.lengths) f → Wrong s p (Face f)
-  face-means f l = (
+  face_means : (f : ℕ) → Least (odd s.lengths) (length s.lengths) f → Wrong s p (Face f)
+  face_means f l = (
     l.below,
     ⊎_elim (λ u. inl u) (λ u. ⊎_elim (λ v. inr v)
         (λ v. absurd (both_ways (odd s.lengths f) (odd_not s.lengths f u v) l.marked))
         (cases_lt 64 (get_or s.lengths f 0))) (cases_lt (get_or s.lengths f 0) 3),
   )
 
-  face-marks : (f : ℕ) → Wrong s p (Face f) → (f < length s.lengths) × (odd s.lengths f ≡ true)
-  face-marks f w = (w.0, ⊎_elim (λ u. odd_few s.lengths f u) (λ u. odd_many s.lengths f u) w.1)
+  face_marks : (f : ℕ) → Wrong s p (Face f) → (f < length s.lengths) × (odd s.lengths f ≡ true)
+  face_marks f w = (w.0, ⊎_elim (λ u. odd_few s.lengths f u) (λ u. odd_many s.lengths f u) w.1)
 
-  stray-means : (h : ℕ) → Least (stray s.points s.corners) (darts s) h → Wrong s p (Stray h)
-  stray-means h l = (l.below, ltb-false (from s h) s.points (not-true _ l.marked))
+  stray_means : (h : ℕ) → Least (stray s.points s.corners) (darts s) h → Wrong s p (Stray h)
+  stray_means h l = (l.below, ltb-false (from s h) s.points (not-true _ l.marked))
 
-  stray-marks : (h : ℕ) → Wrong s p (Stray h) → (h < darts s) × (stray s.points s.corners h ≡ true)
-  stray-marks h w = (w.0, not_from_false _ (le-ltb (from s h) s.points w.1))
+  stray_marks : (h : ℕ) → Wrong s p (Stray h) → (h < darts s) × (stray s.points s.corners h ≡ true)
+  stray_marks h w = (w.0, not_from_false _ (le-ltb (from s h) s.points w.1))
 
   repeats : (f : ℕ) → twice s f ≡ true → Repeats s f
   repeats f t =
@@ -119,48 +119,48 @@ module _ (s : Sheet) (p : Places) where
   repeated : (f : ℕ) → Repeats s f → twice s f ≡ true
   repeated f w = any_from _ (get_or s.lengths f 0) w.1 w.3 (any_from _ w.1 w.0 w.2 (eq-eqb _ _ w.4))
 
-  met-means : (h : ℕ) → Least (met s) (darts s) h → Wrong s p (Met h)
-  met-means h l =
+  met_means : (h : ℕ) → Least (met s) (darts s) h → Wrong s p (Met h)
+  met_means h l =
       let g = any_some (alike s h) h l.marked in
       let t = and_parts (eqb (from s g.0) (from s h)) (eqb (to s g.0) (to s h)) g.2.marked in
       (l.below, (g.0, g.2.below, eqb-true _ _ t.0, eqb-true _ _ t.1))
 
-  met-marks : (h : ℕ) → Wrong s p (Met h) → (h < darts s) × (met s h ≡ true)
-  met-marks h w = (w.0, met_from s w.1.0 h w.1.1 w.1.2 w.1.3)
+  met_marks : (h : ℕ) → Wrong s p (Met h) → (h < darts s) × (met s h ≡ true)
+  met_marks h w = (w.0, met_from s w.1.0 h w.1.1 w.1.2 w.1.3)
 
-  single-means : (h : ℕ) → Least (single s) (darts s) h → Wrong s p (Single h)
-  single-means h l = (
+  single_means : (h : ℕ) → Least (single s) (darts s) h → Wrong s p (Single h)
+  single_means h l = (
     l.below,
     λ g u a b.
         both_ways (opposite s h g) (any_none (opposite s h) (darts s) (not-true _ l.marked) g u) (and_from _ _ (eq-eqb _ _ a) (eq-eqb _ _ b)),
   )
 
-  single-marks : (h : ℕ) → Wrong s p (Single h) → (h < darts s) × (single s h ≡ true)
-  single-marks h w = (w.0, unopposed s h (λ g t. w.1 g t.below t.starts t.ends))
+  single_marks : (h : ℕ) → Wrong s p (Single h) → (h < darts s) × (single s h ≡ true)
+  single_marks h w = (w.0, unopposed s h (λ g t. w.1 g t.below t.starts t.ends))
 
-  bare-means : (v : ℕ) → Least (bare s) s.points v → Wrong s p (Bare v)
-  bare-means v l = (l.below, λ h u e. both_ways (eqb (from s h) v) (any_none _ (darts s) (not-true _ l.marked) h u) (eq-eqb _ _ e))
+  bare_means : (v : ℕ) → Least (bare s) s.points v → Wrong s p (Bare v)
+  bare_means v l = (l.below, λ h u e. both_ways (eqb (from s h) v) (any_none _ (darts s) (not-true _ l.marked) h u) (eq-eqb _ _ e))
 
-  bare-marks : (v : ℕ) → Wrong s p (Bare v) → (v < s.points) × (bare s v ≡ true)
-  bare-marks v w = (w.0, not_from_false _ (any_not _ (darts s) (λ h u. ne_eqb _ _ (w.1 h u))))
+  bare_marks : (v : ℕ) → Wrong s p (Bare v) → (v < s.points) × (bare s v ≡ true)
+  bare_marks v w = (w.0, not_from_false _ (any_not _ (darts s) (λ h u. ne_eqb _ _ (w.1 h u))))
 
-  several-marks : (v : ℕ) → Wrong s p (Several v) → (v < s.points) × (several s v ≡ true)
-  several-marks v w =
+  several_marks : (v : ℕ) → Wrong s p (Several v) → (v < s.points) × (several s v ≡ true)
+  several_marks v w =
       let t = w.1 in
       (w.0, several_from s v t.0 t.1 t.2 t.3 t.4 t.5 (any_not _ (darts s) (λ k u. ne_eqb _ _ (λ e. t.6 (k, e)))))
 
-  crowded-means : (v : ℕ) → Least (crowded s) s.points v → Wrong s p (Crowded v)
-  crowded-means v l =
+  crowded_means : (v : ℕ) → Least (crowded s) s.points v → Wrong s p (Crowded v)
+  crowded_means v l =
       let h = any_some _ (darts s) l.marked in
       let t = and_parts (eqb (from s h.0) v) (ltb 64 (length (ring (turn (mesh s)) h.0))) h.2.marked in
       (l.below, (h.0, h.2.below, eqb-true _ _ t.0, ltb-true 64 _ t.1))
 
-  crowded-marks : (v : ℕ) → Wrong s p (Crowded v) → (v < s.points) × (crowded s v ≡ true)
-  crowded-marks v w = (w.0, any_from _ (darts s) w.1.0 w.1.1 (and_from _ _ (eq-eqb _ _ w.1.2) (lt-ltb 64 _ w.1.3)))
+  crowded_marks : (v : ℕ) → Wrong s p (Crowded v) → (v < s.points) × (crowded s v ≡ true)
+  crowded_marks v w = (w.0, any_from _ (darts s) w.1.0 w.1.1 (and_from _ _ (eq-eqb _ _ w.1.2) (lt-ltb 64 _ w.1.3)))
 
   module _ (new : smallest (darts s) (met s) ≡ None) (paired : smallest (darts s) (single s) ≡ None) where
-    several-means : (v : ℕ) → Least (several s) s.points v → Wrong s p (Several v)
-    several-means v l =
+    several_means : (v : ℕ) → Least (several s) s.points v → Wrong s p (Several v)
+    several_means v l =
         let h = any_some _ (darts s) l.marked in
         let a = and_parts (eqb (from s h.0) v) _ h.2.marked in
         let g = any_some _ (darts s) a.1 in
@@ -173,23 +173,23 @@ module _ (s : Sheet) (p : Places) where
             h.2.below,
             eqb-true _ _ b.0,
             eqb-true _ _ a.0,
-            λ r. both_ways (comes s g.0 h.0) (not-true _ b.1) (steps-come s new paired g.0 h.0 g.2.below r.0 r.1),
+            λ r. both_ways (comes s g.0 h.0) (not-true _ b.1) (steps_come s new paired g.0 h.0 g.2.below r.0 r.1),
           ),
         )
 
   -- ---- faces that name a vertex twice are told by their first dart
 
-  starts-up : (f d : ℕ) → f + d < length s.lengths → start s.lengths f ≤ start s.lengths (f + d)
-  starts-up f zero l = let e : start s.lengths f ≡ start s.lengths (f + 0) = ap (start s.lengths) (let q : f ≡ f + 0 = omega arith in q) in omega arith
-  starts-up f (suc d) l =
-      let a = starts-up f d (omega arith) in
+  starts_up : (f d : ℕ) → f + d < length s.lengths → start s.lengths f ≤ start s.lengths (f + d)
+  starts_up f zero l = let e : start s.lengths f ≡ start s.lengths (f + 0) = ap (start s.lengths) (let q : f ≡ f + 0 = omega arith in q) in omega arith
+  starts_up f (suc d) l =
+      let a = starts_up f d (omega arith) in
       let b = start_more s.lengths (f + d) (omega arith) in
       let e : start s.lengths (f + d + 1) ≡ start s.lengths (f + suc d) = ap (start s.lengths) (let q : f + d + 1 ≡ f + suc d = omega arith in q) in
       omega arith
 
-  by-twice : (r : Result ℕ SkinFault) → (smallest (length s.lengths) (twice s) ≡ None → From 5 r) → From 4 (unless Twice (option_map (start s.lengths) (smallest (length s.lengths) (twice s))) r)
+  by_twice : (r : Result ℕ SkinFault) → (smallest (length s.lengths) (twice s) ≡ None → From 5 r) → From 4 (unless Twice (option_map (start s.lengths) (smallest (length s.lengths) (twice s))) r)
   unfolding unless
-  by-twice r rest = go (smallest (length s.lengths) (twice s)) refl
+  by_twice r rest = go (smallest (length s.lengths) (twice s)) refl
     where
       go : (o : Option ℕ) → smallest (length s.lengths) (twice s) ≡ o → From 4 (unless Twice (option_map (start s.lengths) o) r)
       go (Some f) e =
@@ -201,7 +201,7 @@ module _ (s : Sheet) (p : Places) where
           let g = w.0 in
           let b : g < length s.lengths = w.1 in
           let d : f + (g - f) ≡ g = omega arith in
-          let a : start s.lengths f ≤ start s.lengths g = subst (λ (x : ℕ). start s.lengths f ≤ start s.lengths x) d (starts-up f (g - f) (omega arith)) in
+          let a : start s.lengths f ≤ start s.lengths g = subst (λ (x : ℕ). start s.lengths f ≤ start s.lengths x) d (starts_up f (g - f) (omega arith)) in
           let q : y ≡ start s.lengths g = w.2 in
           omega arith)
           (cases_lt w.0 f))
@@ -213,8 +213,8 @@ module _ (s : Sheet) (p : Places) where
   lacking n e = ⊎_elim (λ a. inl (ltb-true _ _ a)) (λ a. ⊎_elim (λ b. inr (inl (ltb-true _ _ b))) (λ b. ⊎_elim (λ c. inr (inr (inl (ltb-true _ _ c)))) (λ c. inr (inr (inr (ltb-true _ _ c))))
       (or_cases _ _ b)) (or_cases _ _ a)) (or_cases _ _ e)
 
-  not-lacking : (n : ℕ) → scant n p ≡ false → Lacks n p → ⊥
-  not-lacking n e w =
+  not_lacking : (n : ℕ) → scant n p ≡ false → Lacks n p → ⊥
+  not_lacking n e w =
       let x = or_parts (ltb p.corners n) _ e in
       let y = or_parts (ltb p.next n) _ x.1 in
       let z = or_parts (ltb p.prev n) (ltb p.twin n) y.1 in
@@ -224,16 +224,16 @@ module _ (s : Sheet) (p : Places) where
       let d = ltb-false p.twin n z.1 in
       omega arith
 
-  judged-told : From 3 (judged s (darts s))
+  judged_told : From 3 (judged s (darts s))
   unfolding judged
-  judged-told =
-      by-smallest 3 Stray (λ x. refl) (λ x. refl) (λ x. refl) _ _ _ stray-means stray-marks (λ _.
-      by-twice _ (λ _.
-      by-smallest 5 Met (λ x. refl) (λ x. refl) (λ x. refl) _ _ _ met-means met-marks (λ new.
-      by-smallest 6 Single (λ x. refl) (λ x. refl) (λ x. refl) _ _ _ single-means single-marks (λ paired.
-      by-smallest 7 Bare (λ x. refl) (λ x. refl) (λ x. refl) _ _ _ bare-means bare-marks (λ _.
-      by-smallest 8 Several (λ x. refl) (λ x. refl) (λ x. refl) _ _ _ (several-means new paired) several-marks (λ _.
-      by-smallest 9 Crowded (λ x. refl) (λ x. refl) (λ x. refl) _ _ _ crowded-means crowded-marks (λ _.
+  judged_told =
+      by_smallest 3 Stray (λ x. refl) (λ x. refl) (λ x. refl) _ _ _ stray_means stray_marks (λ _.
+      by_twice _ (λ _.
+      by_smallest 5 Met (λ x. refl) (λ x. refl) (λ x. refl) _ _ _ met_means met_marks (λ new.
+      by_smallest 6 Single (λ x. refl) (λ x. refl) (λ x. refl) _ _ _ single_means single_marks (λ paired.
+      by_smallest 7 Bare (λ x. refl) (λ x. refl) (λ x. refl) _ _ _ bare_means bare_marks (λ _.
+      by_smallest 8 Several (λ x. refl) (λ x. refl) (λ x. refl) _ _ _ (several_means new paired) several_marks (λ _.
+      by_smallest 9 Crowded (λ x. refl) (λ x. refl) (λ x. refl) _ _ _ crowded_means crowded_marks (λ _.
       (refl, no_more))))))))
     where
       no_more : (y : SkinFault) → 10 ≤ rank y → Wrong s p y → ⊥
@@ -249,26 +249,26 @@ module _ (s : Sheet) (p : Places) where
       no_more (Crowded v) l w = omega arith
       no_more (Text e) l w = w
 
-  short-told : From 2 (cond (scant (darts s) p) (Err (Short (darts s))) (judged s (darts s)))
-  short-told = go (scant (darts s) p) refl
+  short_told : From 2 (cond (scant (darts s) p) (Err (Short (darts s))) (judged s (darts s)))
+  short_told = go (scant (darts s) p) refl
     where
       go : (b : Bool) → scant (darts s) p ≡ b → From 2 (cond b (Err (Short (darts s))) (judged s (darts s)))
       go true e = found 2 (Short (darts s)) refl (refl, lacking (darts s) e) (λ x w. let q : x ≡ darts s = w.0 in omega arith)
-      go false e = next 2 _ (λ x w. not-lacking x (subst (λ (n : ℕ). scant n p ≡ false) (sym w.0) e) w.1) judged-told
+      go false e = next 2 _ (λ x w. not_lacking x (subst (λ (n : ℕ). scant n p ≡ false) (sym w.0) e) w.1) judged_told
 
-  many-told : From 1 (cond (ltb 1048576 (darts s)) (Err TooMany) (cond (scant (darts s) p) (Err (Short (darts s))) (judged s (darts s))))
-  many-told = go (ltb 1048576 (darts s)) refl
+  many_told : From 1 (cond (ltb 1048576 (darts s)) (Err TooMany) (cond (scant (darts s) p) (Err (Short (darts s))) (judged s (darts s))))
+  many_told = go (ltb 1048576 (darts s)) refl
     where
       go : (b : Bool) → ltb 1048576 (darts s) ≡ b → From 1 (cond b (Err TooMany) (cond (scant (darts s) p) (Err (Short (darts s))) (judged s (darts s))))
       go true e = found 1 TooMany refl (ltb-true 1048576 (darts s) e) (λ x w. omega arith)
-      go false e = next 1 _ (λ x w. let l = ltb-false 1048576 (darts s) e in let u : 1048576 < darts s = w in omega arith) short-told
+      go false e = next 1 _ (λ x w. let l = ltb-false 1048576 (darts s) e in let u : 1048576 < darts s = w in omega arith) short_told
 
   all_told : From 0 (verdict s p)
   unfolding verdict
-  all_told = by-smallest 0 Face (λ x. refl) (λ x. refl) (λ x. refl) _ _ _ face-means face-marks (λ _. many-told)
+  all_told = by_smallest 0 Face (λ x. refl) (λ x. refl) (λ x. refl) _ _ _ face_means face_marks (λ _. many_told)
 
-  pub told-first : (r : Result ℕ SkinFault) → r ≡ verdict s p → Told s p r
-  told-first r e = from_all r (subst (From 0) (sym e) all_told)
+  pub told_first : (r : Result ℕ SkinFault) → r ≡ verdict s p → Told s p r
+  told_first r e = from_all r (subst (From 0) (sym e) all_told)
     where
       from_all : (r : Result ℕ SkinFault) → From 0 r → Told s p r
       from_all (Ok n) f = (f.0, λ y w. f.1 y (omega arith) w)

@@ -4,8 +4,8 @@ use Rattle.std.proofs.lemmas.Bool.{cases_Bool, cases_lt, not_from_true, and_part
 use Rattle.mesh.specs.Mesh.{Mesh, Lawful, Same, times, ring, turn}
 use Rattle.mesh.specs.Smallest.{smallest}
 use Rattle.mesh.proofs.Rings.{times_zero, times_suc, times_keeps, ring_pos, ring_least, on_steps}
-use Rattle.mesh.proofs.Periods.{steps-few}
-use Rattle.mesh.proofs.Same.{same-lawful, same_turn, same-face}
+use Rattle.mesh.proofs.Periods.{steps_few}
+use Rattle.mesh.proofs.Same.{same_lawful, same_turn, same_face}
 use Rattle.mesh.proofs.Smallest.{none_from, any_from, any_not}
 use Rattle.closing.specs.Numbering.{start, next, prev}
 use Rattle.closing.specs.Sheet.{Sheet, darts, mesh, from, to, alike, twin, odd, stray, twice, met, single, bare, comes, several, crowded}
@@ -14,7 +14,7 @@ use Rattle.closing.specs.Law.{Reaches, Skins, Closable}
 use Rattle.std.proofs.lemmas.List.FromFn.{length-range_with_len}
 use Rattle.closing.proofs.Numbering.{place, in_prev, in_total, undo_prev, ends}
 use Rattle.closing.proofs.Scans.{sized, odd_not}
-use Rattle.closing.proofs.Turning.{one_edge, turn_below, unturn, turn-back}
+use Rattle.closing.proofs.Turning.{one_edge, turn_below, unturn, turn_back}
 use Rattle.closing.proofs.Lawful.{Sound, closes, apart, known, used}
 use Rattle.closing.proofs.EdgeOrder.{opposed}
 use Rattle.closing.proofs.VertexRings.{several_not, bare_not}
@@ -45,20 +45,20 @@ skins_same s a b k e =
     λ i h u. agree_steps a.n (turn a) (turn b) (λ x v. l.next_below (a.twin x) (l.twin_below x v)) (λ x v. sym (same_turn a b l e x v)) i h (into h u) in
     record {
       n = sym e.n ∙ k.n;
-      lawful = same-lawful a b l e;
+      lawful = same_lawful a b l e;
       next = λ h u. sym (e.next h (into h u)) ∙ k.next h u;
       faces = λ f u.
           ⊎_elim
-          (λ (w : start s.lengths f < darts s). same-face a b l e (start s.lengths f) (into _ w) ∙ k.faces f u)
-          (λ (w : darts s ≤ start s.lengths f). absurd (empty-face f u w))
+          (λ (w : start s.lengths f < darts s). same_face a b l e (start s.lengths f) (into _ w) ∙ k.faces f u)
+          (λ (w : darts s ≤ start s.lengths f). absurd (empty_face f u w))
           (cases_lt (start s.lengths f) (darts s));
       vertex_ring = λ g h u v r. k.vertex_ring g h u v (r.0, sym (turns r.0 g u) ∙ r.1);
       ring_vertex = λ g h u v q. let r = k.ring_vertex g h u v q in (r.0, turns r.0 g u ∙ r.1);
     }
   where
     -- the ring of a face that starts at n would have no dart
-    empty-face : (f : ℕ) → f < length s.lengths → darts s ≤ start s.lengths f → ⊥
-    empty-face f u w =
+    empty_face : (f : ℕ) → f < length s.lengths → darts s ≤ start s.lengths f → ⊥
+    empty_face f u w =
         let x = ends s.lengths f u in
         let y : length (ring a.next (start s.lengths f)) ≡ get_or s.lengths f 0 = ap length (k.faces f u) ∙ length-range_with_len _ _ in
         let z = ring_pos a.next (start s.lengths f) in
@@ -87,8 +87,8 @@ module _ (s : Sheet) (c : Closable s) where
       let q : g ≡ h = c.new g h (omega arith) b (eqb-true _ _ p.0) (eqb-true _ _ p.1) in absurd (omega arith))
       (λ e. e) (cases_Bool (alike s h g))))
 
-  one-step : (h : ℕ) → Reaches (turn m) h (turn m h)
-  one-step h = (1, times_suc 0 (turn m) h ∙ ap (turn m) (times_zero (turn m) h))
+  one_step : (h : ℕ) → Reaches (turn m) h (turn m h)
+  one_step h = (1, times_suc 0 (turn m) h ∙ ap (turn m) (times_zero (turn m) h))
 
   -- the skin's twin goes back
   goes_back : (h : ℕ) → h < darts s → Goes s (to s h) (from s h) (m.twin h)
@@ -98,8 +98,8 @@ module _ (s : Sheet) (c : Closable s) where
       let nt : m.next t ≡ next s.lengths t = k.next t tb in
       let nh : m.next h ≡ next s.lengths h = k.next h b in
       let over : turn m t ≡ m.next h = ap m.next (l.twin_twin h (into h b)) in
-      let a = k.vertex_ring h (turn m h) b (out _ (l.next_below t (into t tb))) (one-step h) in
-      let d = k.vertex_ring t (turn m t) tb (out _ (l.next_below (m.twin t) (l.twin_below t (into t tb)))) (one-step t) in
+      let a = k.vertex_ring h (turn m h) b (out _ (l.next_below t (into t tb))) (one_step h) in
+      let d = k.vertex_ring t (turn m t) tb (out _ (l.next_below (m.twin t) (l.twin_below t (into t tb)))) (one_step t) in
       record { below = tb; starts = d ∙ ap (from s) (over ∙ nh); ends = sym (a ∙ ap (from s) nt) }
 
   paired : smallest (darts s) (single s) ≡ None
@@ -117,7 +117,7 @@ module _ (s : Sheet) (c : Closable s) where
   }
 
   skin : Lawful (mesh s)
-  skin = same-lawful m (mesh s) l agrees
+  skin = same_lawful m (mesh s) l agrees
 
   keeps : (h : ℕ) → h < darts s → turn (mesh s) h < darts s
   keeps = turn_below s new paired
@@ -128,13 +128,13 @@ module _ (s : Sheet) (c : Closable s) where
       let f = turn (mesh s) in
       let short : length (ring f g) ≤ 64 = skin.vertices_short g a in
       let o = on_steps f g short r.0 in
-      let few : length (ring f g) ≤ darts s = steps-few (darts s) f (unturn s new paired) keeps (turn-back s new paired) g (length (ring f g)) a (λ j p u. ring_least f g j p u) in
+      let few : length (ring f g) ≤ darts s = steps_few (darts s) f (unturn s new paired) keeps (turn_back s new paired) g (length (ring f g)) a (λ j p u. ring_least f g j p u) in
       let lt : o.0 < length (ring f g) = o.1 in
       any_from _ (darts s) o.0 (let w : o.0 < darts s = omega arith in w)
       (eq-eqb _ _ (o.2 ∙ sym (agree_steps (darts s) f (turn m) keeps (λ h u. same_turn m (mesh s) l agrees h (into h u)) r.0 g a) ∙ r.1))
 
-  pub closable-sound : Sound s
-  closable-sound = record {
+  pub closable_sound : Sound s
+  closable_sound = record {
     faces = none_from (odd s.lengths) (length s.lengths) (λ f b. let p = c.faces f b in odd_not s.lengths f p.0 p.1);
     few = c.few;
     known = none_from (stray s.points s.corners) (darts s) (λ h b. not_from_true _ (lt-ltb (from s h) s.points (c.known h b)));

@@ -61,16 +61,16 @@ module _ (s : Sheet) (ok : Sound s) where
   pub known : (h : ℕ) → h < darts s → from s h < s.points
   known h l = ltb-true (from s h) s.points (not-false _ (none_below (stray s.points s.corners) (darts s) ok.known h l))
 
-  short-vertex : (h : ℕ) → h < darts s → length (ring (turn (mesh s)) h) ≤ 64
-  short-vertex h l =
+  short_vertex : (h : ℕ) → h < darts s → length (ring (turn (mesh s)) h) ≤ 64
+  short_vertex h l =
       let t = any_none _ (darts s) (none_below (crowded s) s.points ok.roomy (from s h) (known h l)) h l in
       ⊎_elim
       (λ e. absurd (both_ways (eqb (from s h) (from s h)) e (eq-eqb _ _ refl)))
       (λ e. ltb-false 64 (length (ring (turn (mesh s)) h)) e)
       (and_cases (eqb (from s h) (from s h)) (ltb 64 (length (ring (turn (mesh s)) h))) t)
 
-  short-face : (h : ℕ) → h < darts s → length (ring (next s.lengths) h) ≤ 64
-  short-face h l =
+  short_face : (h : ℕ) → h < darts s → length (ring (next s.lengths) h) ≤ 64
+  short_face h l =
       let f = face s.lengths h in
       let k = sized f (at h l).below in
       let b : length (ring (next s.lengths) h) ≤ get_or s.lengths f 0 = ring_bound (next s.lengths) h (get_or s.lengths f 0) (omega arith) (round s.lengths f h (at h l)) in
@@ -86,8 +86,8 @@ module _ (s : Sheet) (ok : Sound s) where
     prev_next = λ h l. undo_next s.lengths _ h (at h l);
     twin_twin = twin_twin s ok.new ok.paired;
     twin_other = twin_other;
-    faces_short = short-face;
-    vertices_short = short-vertex;
+    faces_short = short_face;
+    vertices_short = short_vertex;
   }
 
   reached : (g h : ℕ) → g < darts s → h < darts s → from s g ≡ from s h → Reaches (turn (mesh s)) g h

@@ -14,8 +14,8 @@ use Rattle.closing.specs.Sheet.{Sheet, darts, mesh, odd}
 use Rattle.closing.specs.Edges.{Holds}
 use Rattle.closing.specs.Law.{Skins, Closable}
 use Rattle.closing.specs.Causes.{Places, places, Room, Lacks}
-use Rattle.closing.proofs.Exact.{closable, closable-sound, skins_same}
-use Rattle.closing.proofs.Causes.{told-first}
+use Rattle.closing.proofs.Exact.{closable, closable_sound, skins_same}
+use Rattle.closing.proofs.Causes.{told_first}
 use Rattle.closing.specs.Closed.{or_zero, Closed, Tell}
 use Rattle.closing.specs.Verdict.{unless, judged, verdict, scant, clears, front, leaves}
 use Rattle.closing.proofs.Lawful.{Sound, closes}
@@ -41,20 +41,20 @@ module _ (n : ℕ) (f : ℕ → ℕ) (old : List ℕ) where
   Late : Result (Unit {0}) SkinFault → Type 0
   Late r = leaves n (told n r) f old ≡ front n (or_zero r f) old
 
-  late-unless : (k : ℕ → SkinFault) → ((x : ℕ) → Late (Err (k x))) → (o : Option ℕ) (r : Result (Unit {0}) SkinFault) → Late r → Late (unless k o r)
+  late_unless : (k : ℕ → SkinFault) → ((x : ℕ) → Late (Err (k x))) → (o : Option ℕ) (r : Result (Unit {0}) SkinFault) → Late r → Late (unless k o r)
   unfolding unless Late
-  late-unless k e (Some x) r l = e x
-  late-unless k e None r l = l
+  late_unless k e (Some x) r l = e x
+  late_unless k e None r l = l
 
-  late-judged : (s : Sheet) → Late (judged s tt)
+  late_judged : (s : Sheet) → Late (judged s tt)
   unfolding judged Late
-  late-judged s =
-      late-unless Stray (λ x. refl) _ _ (late-unless Twice (λ x. refl) _ _ (late-unless Met (λ x. refl) _ _ (late-unless Single (λ x. refl) _ _
-      (late-unless Bare (λ x. refl) _ _ (late-unless Several (λ x. refl) _ _ (late-unless Crowded (λ x. refl) _ _ refl))))))
+  late_judged s =
+      late_unless Stray (λ x. refl) _ _ (late_unless Twice (λ x. refl) _ _ (late_unless Met (λ x. refl) _ _ (late_unless Single (λ x. refl) _ _
+      (late_unless Bare (λ x. refl) _ _ (late_unless Several (λ x. refl) _ _ (late_unless Crowded (λ x. refl) _ _ refl))))))
 
   pub late : (s : Sheet) (r : Result (Unit {0}) SkinFault) → r ≡ judged s tt → leaves n (told n r) f old ≡ front n (or_zero r f) old
   unfolding Late
-  late s r e = subst Late (sym e) (late-judged s)
+  late s r e = subst Late (sym e) (late_judged s)
 
 -- ---- nothing was found
 
@@ -126,7 +126,7 @@ exact s p r e = (
       let v = ok_unless Face _ _ (ap is_ok (sym e) ∙ o) in
       go v.0 (ltb 1048576 (darts s)) refl (scant (darts s) p) refl v.1,
   λ k room.
-      let ok = closable-sound s k in
+      let ok = closable_sound s k in
       ap is_ok (e ∙ sym (goes_on s p (sym ok.faces) ok.few (roomy (darts s) p room) (Ok (darts s)) (all_pass s (darts s) ok))),
 )
   where
@@ -155,7 +155,7 @@ settled s a b c x y z r faces few room e p q t =
     let said = goes_on s (places s a b c) faces few room (told (darts s) r) (ap (told (darts s)) e ∙ sym (judged_as s (darts s) tt)) in
     record {
       answer = said;
-      told = told-first s (places s a b c) (told (darts s) r) said;
+      told = told_first s (places s a b c) (told (darts s) r) said;
       exact = exact s (places s a b c) (told (darts s) r) said;
       next = p ∙ sym (late (darts s) (mesh s).next a s r e);
       prev = q ∙ sym (late (darts s) (mesh s).prev b s r e);
@@ -178,7 +178,7 @@ settled s a b c x y z r faces few room e p q t =
 pub untouched : (s : Sheet) (a b c : List ℕ) (y : SkinFault) → Err y ≡ verdict s (places s a b c) → clears y ≡ false → Closed s a b c a b c (Err y)
 untouched s a b c y e still = record {
   answer = e;
-  told = told-first s (places s a b c) (Err y) e;
+  told = told_first s (places s a b c) (Err y) e;
   exact = exact s (places s a b c) (Err y) e;
   next = sym (cond-false (clears y) _ a still);
   prev = sym (cond-false (clears y) _ b still);

@@ -4,7 +4,7 @@ use Rattle.std.proofs.lemmas.Bool.{cases_Bool, cases_order, not-false, both_ways
 use Rattle.mesh.specs.Mesh.{times, turn, Period}
 use Rattle.mesh.specs.Smallest.{smallest, any}
 use Rattle.mesh.proofs.Rings.{times_zero, times_suc, times_keeps}
-use Rattle.mesh.proofs.Periods.{steps-few, within_period}
+use Rattle.mesh.proofs.Periods.{steps_few, within_period}
 use Rattle.mesh.proofs.Smallest.{none_below, any_some, any_none, any_from}
 use Rattle.closing.specs.Numbering.{face, next, prev}
 use Rattle.closing.specs.Sheet.{Sheet, darts, mesh, from, to, alike, opposite, twin, met, single, comes}
@@ -42,8 +42,8 @@ module _ (s : Sheet) (new : smallest (darts s) (met s) ≡ None) (paired : small
       let c = back (twin s h) b.below in
       one_edge s new (twin s (twin s h)) h c.below l (c.starts ∙ b.ends) (c.ends ∙ b.starts)
 
-  pub vertex-kept : (h : ℕ) → h < darts s → from s (turn (mesh s) h) ≡ from s h
-  vertex-kept h l = (back h l).ends
+  pub vertex_kept : (h : ℕ) → h < darts s → from s (turn (mesh s) h) ≡ from s h
+  vertex_kept h l = (back h l).ends
 
   pub turn_below : (h : ℕ) → h < darts s → turn (mesh s) h < darts s
   turn_below h l =
@@ -54,18 +54,18 @@ module _ (s : Sheet) (new : smallest (darts s) (met s) ≡ None) (paired : small
   abbrev pub unturn : ℕ → ℕ
   unturn h = twin s (prev s.lengths h)
 
-  pub turn-back : (h : ℕ) → h < darts s → unturn (turn (mesh s) h) ≡ h
-  turn-back h l = ap (twin s) (undo_next s.lengths _ (twin s h) (place s.lengths (twin s h) (back h l).below)) ∙ twin_twin h l
+  pub turn_back : (h : ℕ) → h < darts s → unturn (turn (mesh s) h) ≡ h
+  turn_back h l = ap (twin s) (undo_next s.lengths _ (twin s h) (place s.lengths (twin s h) (back h l).below)) ∙ twin_twin h l
 
   pub kept : (g : ℕ) → g < darts s → (k : ℕ) → from s (times k (turn (mesh s)) g) ≡ from s g
   kept g l zero = ap (from s) (times_zero (turn (mesh s)) g)
   kept g l (suc k) =
       ap (from s) (times_suc k (turn (mesh s)) g)
-      ∙ vertex-kept (times k (turn (mesh s)) g) (times_keeps (darts s) (turn (mesh s)) turn_below k g l) ∙ kept g l k
+      ∙ vertex_kept (times k (turn (mesh s)) g) (times_keeps (darts s) (turn (mesh s)) turn_below k g l) ∙ kept g l k
 
   -- turning g, some number of steps below n comes to whatever turning comes to
-  pub steps-come : (g h : ℕ) → g < darts s → (k : ℕ) → times k (turn (mesh s)) g ≡ h → comes s g h ≡ true
-  steps-come g h l k e =
+  pub steps_come : (g h : ℕ) → g < darts s → (k : ℕ) → times k (turn (mesh s)) g ≡ h → comes s g h ≡ true
+  steps_come g h l k e =
       let f = turn (mesh s) in
       let home : ℕ → Bool = λ j. eqb (times (j + 1) f g) g in
       ⊎_elim
@@ -84,7 +84,7 @@ module _ (s : Sheet) (new : smallest (darts s) (met s) ≡ None) (paired : small
       let few : i.0 < y.0 + 1 = i.1 in
       any_from _ (darts s) i.0 (let w : i.0 < darts s = omega arith in w) (eq-eqb _ _ (i.2 ∙ e)))
       (λ (t : any (darts s) home ≡ false). absurd (
-      let few = steps-few (darts s) f unturn turn_below turn-back g (darts s + 1) l
+      let few = steps_few (darts s) f unturn turn_below turn_back g (darts s + 1) l
       (λ j a b q.
       both_ways (home (j - 1)) (any_none home (darts s) t (j - 1) (omega arith))
       (eq-eqb _ _ (ap (λ (x : ℕ). times x f g) (let w : j - 1 + 1 ≡ j = omega arith in w) ∙ q))) in

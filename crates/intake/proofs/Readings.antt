@@ -50,26 +50,26 @@ module _ (bytes : List ℕ) (n : Sizes) (t u : Tables) (r : Result Sizes TextFau
   abbrev pub read : text.Sheet
   read = found.0.0
 
-  sizes-are : n ≡ sizes read
-  sizes-are = found.2
+  sizes_are : n ≡ sizes read
+  sizes_are = found.2
 
   outcome : ◌≡◌ {A = Result Sizes TextFault × Tables} (r, u) (Ok (sizes read), holding read t)
   outcome =
       o.outcome ∙ ap (λ x. settled x t) found.1
-      ∙ room read t (p ∙ ap (λ z. z.points) sizes-are) (f ∙ ap (λ z. z.faces) sizes-are) (c ∙ ap (λ z. z.corners) sizes-are)
+      ∙ room read t (p ∙ ap (λ z. z.points) sizes_are) (f ∙ ap (λ z. z.faces) sizes_are) (c ∙ ap (λ z. z.corners) sizes_are)
 
   pub answers : r ≡ Ok n
-  answers = ap (λ x. x.0) outcome ∙ ap (λ z. Ok z) (sym sizes-are)
+  answers = ap (λ x. x.0) outcome ∙ ap (λ z. Ok z) (sym sizes_are)
 
-  lengths-are : u.lengths ≡ map length read.faces
-  lengths-are = ap (λ x. x.1.lengths) outcome ∙ over_all (map length read.faces) t.lengths (f ∙ ap (λ z. z.faces) sizes-are ∙ sym (length-map read.faces length))
+  lengths_are : u.lengths ≡ map length read.faces
+  lengths_are = ap (λ x. x.1.lengths) outcome ∙ over_all (map length read.faces) t.lengths (f ∙ ap (λ z. z.faces) sizes_are ∙ sym (length-map read.faces length))
 
-  corners-are : u.corners ≡ text.corners_of read.faces
-  corners-are = ap (λ x. x.1.corners) outcome ∙ over_all (text.corners_of read.faces) t.corners (c ∙ ap (λ z. z.corners) sizes-are)
+  corners_are : u.corners ≡ text.corners_of read.faces
+  corners_are = ap (λ x. x.1.corners) outcome ∙ over_all (text.corners_of read.faces) t.corners (c ∙ ap (λ z. z.corners) sizes_are)
 
   -- the sheet that is closed
-  pub drawn-so : sheet n.points u.lengths u.corners ≡ drawn read
-  drawn-so = λ i. sheet (sizes-are i).points (lengths-are i) (corners-are i)
+  pub drawn_so : sheet n.points u.lengths u.corners ≡ drawn read
+  drawn_so = λ i. sheet (sizes_are i).points (lengths_are i) (corners_are i)
 
   -- few points
   pub few : n.points ≤ 1048576
@@ -78,10 +78,10 @@ module _ (bytes : List ℕ) (n : Sizes) (t u : Tables) (r : Result Sizes TextFau
   pub surveyed : survey_of bytes ≡ counted (drawn read) (verdict (drawn read) (ample (drawn read)))
   surveyed = ap closed_to found.1
 
-  pub ample-so : (a b d : ℕ) → a ≡ min n.corners 1048576 → b ≡ min n.corners 1048576 → d ≡ min n.corners 1048576 → record { corners = length u.corners; next = a; prev = b; twin = d } ≡ ample (drawn read)
-  ample-so a b d x y z =
-      let k = ap (λ z. min z.corners 1048576) sizes-are in
-      λ i. record { corners = length (corners-are i); next = (x ∙ k) i; prev = (y ∙ k) i; twin = (z ∙ k) i }
+  pub ample_so : (a b d : ℕ) → a ≡ min n.corners 1048576 → b ≡ min n.corners 1048576 → d ≡ min n.corners 1048576 → record { corners = length u.corners; next = a; prev = b; twin = d } ≡ ample (drawn read)
+  ample_so a b d x y z =
+      let k = ap (λ z. min z.corners 1048576) sizes_are in
+      λ i. record { corners = length (corners_are i); next = (x ∙ k) i; prev = (y ∙ k) i; twin = (z ∙ k) i }
 
   -- what closing it into a held skin leaves there
   pub holds : (x y z : List ℕ) → length x ≡ min n.corners 1048576 → length y ≡ min n.corners 1048576 → length z ≡ min n.corners 1048576
@@ -91,11 +91,11 @@ module _ (bytes : List ℕ) (n : Sizes) (t u : Tables) (r : Result Sizes TextFau
   holds x y z a b d old new q k = go q refl
     where
       answer : q ≡ verdict (drawn read) (ample (drawn read))
-      answer = k.answer ∙ (λ i. verdict (drawn-so i) (ample-so (length x) (length y) (length z) a b d i))
+      answer = k.answer ∙ (λ i. verdict (drawn_so i) (ample_so (length x) (length y) (length z) a b d i))
 
       go : (w : Result ℕ SkinFault) → q ≡ w → Holding bytes new w
       go (Ok m) e =
-          let same = subst (λ (v : Sheet). Same (meaning new) (mesh v)) drawn-so (k.same (ap is_ok e)) in
+          let same = subst (λ (v : Sheet). Same (meaning new) (mesh v)) drawn_so (k.same (ap is_ok e)) in
           surveyed ∙ ap (counted (drawn read)) (sym answer ∙ e)
           ∙ ap (λ (v : Counts). Ok (record { darts = m; counts = v; figure = figure_of v })) (sym (counting_same (meaning new) (mesh (drawn read)) (k.skin (ap is_ok e)).lawful same))
       go (Err f) e = surveyed ∙ ap (counted (drawn read)) (sym answer ∙ e)

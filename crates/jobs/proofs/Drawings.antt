@@ -72,30 +72,30 @@ module _ (j : Job) (t : Tables) (p : length t.points ≡ table_places) (f : leng
   C = corner_count j.of.faces
 
   -- the rest of what `stored` does
-  with-corners : Result Sizes TextFault × Tables
-  with-corners = cond (ltb table_places C) (Err (text.Short C), t) (Ok (sizes j.of), holding j.of t)
+  with_corners : Result Sizes TextFault × Tables
+  with_corners = cond (ltb table_places C) (Err (text.Short C), t) (Ok (sizes j.of), holding j.of t)
 
-  with-faces : Result Sizes TextFault × Tables
-  with-faces = cond (ltb table_places F) (Err (text.Short F), t) with-corners
+  with_faces : Result Sizes TextFault × Tables
+  with_faces = cond (ltb table_places F) (Err (text.Short F), t) with_corners
 
-  stored_is : stored j.of t ≡ cond (ltb table_places P) (Err (text.Short P), t) with-faces
-  unfolding P F C with-corners with-faces
+  stored_is : stored j.of t ≡ cond (ltb table_places P) (Err (text.Short P), t) with_faces
+  unfolding P F C with_corners with_faces
   stored_is = λ i. cond (ltb (p i) (length j.of.points)) (Err (text.Short (length j.of.points)), t)
       (cond (ltb (f i) (length j.of.faces)) (Err (text.Short (length j.of.faces)), t)
       (cond (ltb (c i) (corner_count j.of.faces)) (Err (text.Short (corner_count j.of.faces)), t) (Ok (sizes j.of), holding j.of t)))
 
-  pub judge-fits : Fits j t ⊎ Lacks j t
-  unfolding P F C with-corners with-faces
-  judge-fits = ⊎_elim (λ a. inr (no-points a)) (λ a. ⊎_elim (λ b. inr (no-faces a b)) (λ b. ⊎_elim (λ d. inr (no-corners a b d)) (λ d. inl (all a b d)) (cases_Bool (ltb table_places C))) (cases_Bool (ltb table_places F))) (cases_Bool (ltb table_places P))
+  pub judge_fits : Fits j t ⊎ Lacks j t
+  unfolding P F C with_corners with_faces
+  judge_fits = ⊎_elim (λ a. inr (no_points a)) (λ a. ⊎_elim (λ b. inr (no_faces a b)) (λ b. ⊎_elim (λ d. inr (no_corners a b d)) (λ d. inl (all a b d)) (cases_Bool (ltb table_places C))) (cases_Bool (ltb table_places F))) (cases_Bool (ltb table_places P))
     where
-      no-points : ltb table_places P ≡ true → Lacks j t
-      no-points a = record { fault = text.Short P; fits = cond-true _ _ _ a; stores = stored_is ∙ cond-true _ _ _ a }
+      no_points : ltb table_places P ≡ true → Lacks j t
+      no_points a = record { fault = text.Short P; fits = cond-true _ _ _ a; stores = stored_is ∙ cond-true _ _ _ a }
 
-      no-faces : ltb table_places P ≡ false → ltb table_places F ≡ true → Lacks j t
-      no-faces a b = record { fault = text.Short F; fits = cond-false _ _ _ a ∙ cond-true _ _ _ b; stores = stored_is ∙ cond-false _ _ _ a ∙ cond-true _ _ _ b }
+      no_faces : ltb table_places P ≡ false → ltb table_places F ≡ true → Lacks j t
+      no_faces a b = record { fault = text.Short F; fits = cond-false _ _ _ a ∙ cond-true _ _ _ b; stores = stored_is ∙ cond-false _ _ _ a ∙ cond-true _ _ _ b }
 
-      no-corners : ltb table_places P ≡ false → ltb table_places F ≡ false → ltb table_places C ≡ true → Lacks j t
-      no-corners a b d = record { fault = text.Short C; fits = cond-false _ _ _ a ∙ cond-false _ _ _ b ∙ cond-true _ _ _ d; stores = stored_is ∙ cond-false _ _ _ a ∙ cond-false _ _ _ b ∙ cond-true _ _ _ d }
+      no_corners : ltb table_places P ≡ false → ltb table_places F ≡ false → ltb table_places C ≡ true → Lacks j t
+      no_corners a b d = record { fault = text.Short C; fits = cond-false _ _ _ a ∙ cond-false _ _ _ b ∙ cond-true _ _ _ d; stores = stored_is ∙ cond-false _ _ _ a ∙ cond-false _ _ _ b ∙ cond-true _ _ _ d }
 
       all : ltb table_places P ≡ false → ltb table_places F ≡ false → ltb table_places C ≡ false → Fits j t
       all a b d = record {
@@ -135,7 +135,7 @@ module _ (input : List ℕ) (t u : Tables) (p : length t.points ≡ table_places
         go (Err y) e =
             let q : ◌≡◌ {A = Result JobSizes TextFault × Tables} (r, u) (Err y, t) = o.outcome ∙ ap (λ (x : Result (Job × ℕ) TextFault). settled_job x t) e in
             subst Outcome (sym (ap (λ (x : Result JobSizes TextFault × Tables). x.0) q)) (judged ∙ ap (λ (x : Result (Job × ℕ) TextFault). then x (λ q. fitted q.0)) e)
-        go (Ok m) e = ⊎_elim good bad (judge-fits m.0 t p f c)
+        go (Ok m) e = ⊎_elim good bad (judge_fits m.0 t p f c)
           where
             is : read_in input ≡ fitted m.0
             is = judged ∙ ap (λ (x : Result (Job × ℕ) TextFault). then x (λ q. fitted q.0)) e
@@ -157,13 +157,13 @@ module _ (input : List ℕ) (t u : Tables) (p : length t.points ≡ table_places
                 all ∙ ap (λ (x : Result Sizes TextFault × Tables). (headed m.0.degree m.0.levels x.0, x.1)) g.stores in
                 subst Outcome (sym (ap (λ (x : Result JobSizes TextFault × Tables). x.0) q)) (is ∙ g.fits)
 
-    pub read-declined : (y : TextFault) → r ≡ Err y → drawn_in input ≡ Err (Text y)
+    pub read_declined : (y : TextFault) → r ≡ Err y → drawn_in input ≡ Err (Text y)
     unfolding drawn_in Outcome
-    read-declined y e = ap (λ (x : Result Job TextFault). then (textual x) (λ j. closed j (verdict (drawn j.of) (room j.of)))) (subst Outcome e outcome)
+    read_declined y e = ap (λ (x : Result Job TextFault). then (textual x) (λ j. closed j (verdict (drawn j.of) (room j.of)))) (subst Outcome e outcome)
 
-    pub read-accepted : (z : JobSizes) → r ≡ Ok z → Reads input t u z
+    pub read_accepted : (z : JobSizes) → r ≡ Ok z → Reads input t u z
     unfolding Outcome
-    read-accepted z e = subst Outcome e outcome
+    read_accepted z e = subst Outcome e outcome
 
 -- ---- closing and spreading
 front : {A : Type 0} (xs was : List A) (n : ℕ) → n ≡ length xs → between 0 n (over xs was) ≡ xs
@@ -181,59 +181,59 @@ module _ (input : List ℕ) (t u : Tables) (z : JobSizes) (R : Reads input t u z
       ap (λ (x : Tables). between 0 z.sizes.faces x.lengths) R.held
       ∙ front (map length R.made.of.faces) t.lengths z.sizes.faces (ap (λ (x : JobSizes). x.sizes.faces) R.sizes_so ∙ sym (length-map R.made.of.faces length))
 
-  corners-are : between 0 z.sizes.corners u.corners ≡ corners_of R.made.of.faces
-  corners-are =
+  corners_are : between 0 z.sizes.corners u.corners ≡ corners_of R.made.of.faces
+  corners_are =
       ap (λ (x : Tables). between 0 z.sizes.corners x.corners) R.held
       ∙ front (corners_of R.made.of.faces) t.corners z.sizes.corners (ap (λ (x : JobSizes). x.sizes.corners) R.sizes_so)
 
-  points-are : between 0 z.sizes.points u.points ≡ R.made.of.points
-  points-are =
+  points_are : between 0 z.sizes.points u.points ≡ R.made.of.points
+  points_are =
       ap (λ (x : Tables). between 0 z.sizes.points x.points) R.held
       ∙ front R.made.of.points t.points z.sizes.points (ap (λ (x : JobSizes). x.sizes.points) R.sizes_so)
 
   closes : closing.Sheet
   closes = closing.sheet z.sizes.points (between 0 z.sizes.faces u.lengths) (between 0 z.sizes.corners u.corners)
 
-  drawn-so : closes ≡ drawn R.made.of
+  drawn_so : closes ≡ drawn R.made.of
   unfolding closes
-  drawn-so = λ i. closing.sheet (R.sizes_so i).sizes.points (faces_are i) (corners-are i)
+  drawn_so = λ i. closing.sheet (R.sizes_so i).sizes.points (faces_are i) (corners_are i)
 
   module _ (a b d : List ℕ) (la : length a ≡ table_places) (lb : length b ≡ table_places) (ld : length d ≡ table_places)
       (old new : TableSkin) (q : Result ℕ SkinFault)
       (h : held.Held (closing.sheet z.sizes.points (between 0 z.sizes.faces u.lengths) (between 0 z.sizes.corners u.corners))
       (places (closing.sheet z.sizes.points (between 0 z.sizes.faces u.lengths) (between 0 z.sizes.corners u.corners)) a b d) old new q)
     where
-      room-so : places closes a b d ≡ room R.made.of
+      room_so : places closes a b d ≡ room R.made.of
       unfolding closes
-      room-so = λ i. record { corners = length (corners-are i); next = la i; prev = lb i; twin = ld i }
+      room_so = λ i. record { corners = length (corners_are i); next = la i; prev = lb i; twin = ld i }
 
-      verdict-so : q ≡ verdict (drawn R.made.of) (room R.made.of)
+      verdict_so : q ≡ verdict (drawn R.made.of) (room R.made.of)
       unfolding closes
-      verdict-so = h.answer ∙ (λ i. verdict (drawn-so i) (room-so i))
+      verdict_so = h.answer ∙ (λ i. verdict (drawn_so i) (room_so i))
 
       answers : drawn_in input ≡ closed R.made q
       unfolding drawn_in
       answers =
           ap (λ (x : Result Job TextFault). then (textual x) (λ j. closed j (verdict (drawn j.of) (room j.of)))) R.answer
-          ∙ ap (closed R.made) (sym verdict-so)
+          ∙ ap (closed R.made) (sym verdict_so)
 
-      pub close-declined : (y : SkinFault) → q ≡ Err y → drawn_in input ≡ Err y
-      close-declined y e = answers ∙ ap (closed R.made) e
+      pub close_declined : (y : SkinFault) → q ≡ Err y → drawn_in input ≡ Err y
+      close_declined y e = answers ∙ ap (closed R.made) e
 
       module _ (n : ℕ) (e : q ≡ Ok n) where
         no_fault : Told (drawn R.made.of) (room R.made.of) (Ok n)
         unfolding closes
-        no_fault = subst (Told (drawn R.made.of) (room R.made.of)) e (subst₂ (λ (v : closing.Sheet) (w : Places). Told v w q) drawn-so room-so h.told)
+        no_fault = subst (Told (drawn R.made.of) (room R.made.of)) e (subst₂ (λ (v : closing.Sheet) (w : Places). Told v w q) drawn_so room_so h.told)
 
         count : n ≡ closing.darts (drawn R.made.of)
         count = no_fault.0
 
         closable : Closable (drawn R.made.of) × Room (closing.darts (drawn R.made.of)) (room R.made.of)
-        closable = (exact (drawn R.made.of) (room R.made.of) q verdict-so).0 (ap is_ok e)
+        closable = (exact (drawn R.made.of) (room R.made.of) q verdict_so).0 (ap is_ok e)
 
-        pub spread-answers : (m : ℕ) → m ≡ table_places → Ok tt ≡ told n (between 0 z.sizes.corners u.corners) (length (between 0 z.sizes.points u.points)) m
-        spread-answers m l =
-            let cs : length (between 0 z.sizes.corners u.corners) ≡ corner_count R.made.of.faces = ap length corners-are in
+        pub spread_answers : (m : ℕ) → m ≡ table_places → Ok tt ≡ told n (between 0 z.sizes.corners u.corners) (length (between 0 z.sizes.points u.points)) m
+        spread_answers m l =
+            let cs : length (between 0 z.sizes.corners u.corners) ≡ corner_count R.made.of.faces = ap length corners_are in
             let r = closable.1 in
             goes n (between 0 z.sizes.corners u.corners) (length (between 0 z.sizes.points u.points)) m
             (omega (arith, count, r.corners)) (omega (arith, count, r.next))
@@ -241,7 +241,7 @@ module _ (input : List ℕ) (t u : Tables) (z : JobSizes) (R : Reads input t u z
             (λ x b.
             let k : get_or (corners_of R.made.of.faces) x 0 < length R.made.of.points = closable.0.known x (subst (λ (y : ℕ). x < y) count b) in
             let k' : get_or (between 0 z.sizes.corners u.corners) x 0 < length (between 0 z.sizes.points u.points) =
-            subst₂ (λ (xs : List ℕ) (ps : List SolidRecord). get_or xs x 0 < length ps) (sym corners-are) (sym points-are) k in
+            subst₂ (λ (xs : List ℕ) (ps : List SolidRecord). get_or xs x 0 < length ps) (sym corners_are) (sym points_are) k in
             ap not (lt-ltb (get_or (between 0 z.sizes.corners u.corners) x 0) (length (between 0 z.sizes.points u.points)) k'))))
 
         pub draws : (was is : List SolidRecord) → length is ≡ table_places
@@ -255,14 +255,14 @@ module _ (input : List ℕ) (t u : Tables) (z : JobSizes) (R : Reads input t u z
           levels = ap (λ (x : JobSizes). x.levels) R.sizes_so;
           holds = record {
             ranged = R.ranged;
-            same = subst (λ (v : closing.Sheet). Same (meaning new) (closing.mesh v)) drawn-so (h.same (ap is_ok e));
-            skin = subst (λ (v : closing.Sheet). Skins v (meaning new)) drawn-so (h.skin (ap is_ok e));
+            same = subst (λ (v : closing.Sheet). Same (meaning new) (closing.mesh v)) drawn_so (h.same (ap is_ok e));
+            skin = subst (λ (v : closing.Sheet). Skins v (meaning new)) drawn_so (h.skin (ap is_ok e));
             closable = closable.0;
             long = l;
             counted = counted;
             few = R.fits.corners;
             points = λ x b. s.front x origin (subst (λ (y : ℕ). x < y) (counted ∙ sym count) b)
-                ∙ (λ i. get_or (points-are i) (get_or (corners-are i) x 0) origin);
+                ∙ (λ i. get_or (points_are i) (get_or (corners_are i) x 0) origin);
           };
         }
           where

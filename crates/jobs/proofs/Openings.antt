@@ -7,7 +7,7 @@ use Rattle.std.proofs.lemmas.List.FromFn.{fill_by_all}
 use Rattle.mesh.specs.Mesh.{Mesh, Lawful, Same, turn, times}
 use Rattle.mesh.proofs.Rings.{times_zero, times_suc}
 use Rattle.mesh.proofs.DualLaws.{turn_below}
-use Rattle.mesh.proofs.Same.{same-lawful, same_turn}
+use Rattle.mesh.proofs.Same.{same_lawful, same_turn}
 use Rattle.skin.specs.Skins as skins
 use Rattle.skin.specs.Meaning.{meaning}
 use Rattle.skin.specs.declared.table.TableSkin.{TableSkin}
@@ -42,11 +42,11 @@ corner_point s h b = get_or-map (vertex_point s) (corners_of s.faces) h 0 [] b
 
 module _ (j : Job) (skin : TableSkin) (table : List SolidRecord) (H : Held j skin table) where
   lawful : Lawful (mesh (drawn j.of))
-  lawful = same-lawful (meaning skin) (mesh (drawn j.of)) H.skin.lawful H.same
+  lawful = same_lawful (meaning skin) (mesh (drawn j.of)) H.skin.lawful H.same
 
   -- the place of a dart has the point of its corner
-  pub at-corner : (h : ℕ) → h < corner_count j.of.faces → get_or (map (place solid) table) h [] ≡ vertex_point j.of (get_or (corners_of j.of.faces) h 0)
-  at-corner h b =
+  pub at_corner : (h : ℕ) → h < corner_count j.of.faces → get_or (map (place solid) table) h [] ≡ vertex_point j.of (get_or (corners_of j.of.faces) h 0)
+  at_corner h b =
       get_or-map (place solid) table h origin [] (omega (arith, H.long, H.few))
       ∙ ap (λ (r : SolidRecord). numbers_of (meant_by r)) (H.points h b)
 
@@ -73,8 +73,8 @@ module _ (j : Job) (skin : TableSkin) (table : List SolidRecord) (H : Held j ski
         let b : h < (mesh (drawn j.of)).n = subst (λ (n : ℕ). h < n) H.same.n a in
         let t : turn (meaning skin) h ≡ turn (mesh (drawn j.of)) h = same_turn (meaning skin) (mesh (drawn j.of)) H.skin.lawful H.same h a in
         let below = turn_below (mesh (drawn j.of)) lawful h b in
-        at-corner h (omega (arith, H.counted)) ∙ ap (vertex_point j.of) (sym (turned h b))
-        ∙ sym (at-corner (turn (mesh (drawn j.of)) h) (omega (arith, H.counted)))
+        at_corner h (omega (arith, H.counted)) ∙ ap (vertex_point j.of) (sym (turned h b))
+        ∙ sym (at_corner (turn (mesh (drawn j.of)) h) (omega (arith, H.counted)))
         ∙ ap (λ (x : ℕ). get_or (map (place solid) table) x []) (sym t);
   }
 
@@ -87,10 +87,10 @@ module _ (j : Job) (skin : TableSkin) (table : List SolidRecord) (H : Held j ski
   opens SplitsSpent e = e
   opens AveragesSpent e = e
 
-  same-front : take (corner_count j.of.faces) (map (place solid) table) ≡ corner_points j.of
-  same-front =
+  same_front : take (corner_count j.of.faces) (map (place solid) table) ≡ corner_points j.of
+  same_front =
       fill_by_all (λ h. vertex_point j.of (get_or (corners_of j.of.faces) h 0)) (take n (map (place solid) table)) n [] (length-take-le n (map (place solid) table) long)
-      (λ h b. get_or-take n (map (place solid) table) h [] b ∙ at-corner h b)
+      (λ h b. get_or-take n (map (place solid) table) h [] b ∙ at_corner h b)
       ∙ sym (fill_by_all (λ h. vertex_point j.of (get_or (corners_of j.of.faces) h 0)) (corner_points j.of) n [] (length-map (corners_of j.of.faces) (vertex_point j.of)) (λ h b. corner_point j.of h b))
     where
       n : ℕ
@@ -100,7 +100,7 @@ module _ (j : Job) (skin : TableSkin) (table : List SolidRecord) (H : Held j ski
       long = omega (arith, H.few, H.long, length-map table (place solid))
 
   whole : corner_points j.of ++ drop (corner_count j.of.faces) (map (place solid) table) ≡ map (place solid) table
-  whole = ap (λ (x : List Point). x ++ drop (corner_count j.of.faces) (map (place solid) table)) (sym same-front) ∙ take-drop (corner_count j.of.faces) (map (place solid) table)
+  whole = ap (λ (x : List Point). x ++ drop (corner_count j.of.faces) (map (place solid) table)) (sym same_front) ∙ take-drop (corner_count j.of.faces) (map (place solid) table)
 
   -- and the workpiece begins at the start of the job
   pub starts : (w : Workpiece TableSkin) → Opened table_skin skin w → At table_skin solid (start j.of) w table
@@ -116,7 +116,7 @@ module _ (j : Job) (skin : TableSkin) (table : List SolidRecord) (H : Held j ski
       inside = begun.inside;
       figured = refl;
     };
-    points = λ h b. at-corner h (omega (arith, H.counted)) ∙ sym (corner_point j.of h (omega (arith, H.counted)));
+    points = λ h b. at_corner h (omega (arith, H.counted)) ∙ sym (corner_point j.of h (omega (arith, H.counted)));
   }
     where
       begun : Faithful 3 1 (opening (mesh (drawn j.of)) (corner_points j.of)) (record { carrier = mesh (drawn j.of); splits = 0; averages = 0 }) (map (place solid) table)

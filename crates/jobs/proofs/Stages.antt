@@ -3,8 +3,8 @@ use Rattle.std.proofs.Common.{◌≡◌, ℕ, zero, suc, ◌+◌, ◌-◌, ◌*�
 use lib.ListN.{length-map}
 use Rattle.std.proofs.lemmas.Bool.{cases_Bool, cond-true, cond-false}
 use Rattle.mesh.specs.Mesh.{Mesh, Lawful, Same, ring, among}
-use Rattle.mesh.proofs.Rounds.{face_rounds, ring-inside}
-use Rattle.mesh.proofs.Same.{same-face}
+use Rattle.mesh.proofs.Rounds.{face_rounds, ring_inside}
+use Rattle.mesh.proofs.Same.{same_face}
 use Rattle.skin.specs.declared.skin.Skin.{Ghosts}
 use Rattle.point.specs.Points.{Point, totals}
 use Rattle.point.specs.Kinds.{place, mean_point}
@@ -36,14 +36,14 @@ quad_below n h l =
 
 module _ {S A X P Q : Type 0} (k : Ghosts S) (kd : Kind A X P Q) where
   -- nothing done
-  pub none-goes : (f : Stage → Reached) (w : Workpiece S) (t : List X) → Goes k kd (repeated f 0) w t (Ok tt) w t
+  pub none_goes : (f : Stage → Reached) (w : Workpiece S) (t : List X) → Goes k kd (repeated f 0) w t (Ok tt) w t
   unfolding repeated
-  none-goes f w t = record { long = refl; answer = λ s a. refl; comes = λ s a. a }
+  none_goes f w t = record { long = refl; answer = λ s a. refl; comes = λ s a. a }
 
   -- one after the other
-  pub then-goes : (f g : Stage → Reached) (w w₁ w₂ : Workpiece S) (t t₁ t₂ : List X) (r : Result (Unit {0}) WorkFault)
+  pub then_goes : (f g : Stage → Reached) (w w₁ w₂ : Workpiece S) (t t₁ t₂ : List X) (r : Result (Unit {0}) WorkFault)
       → Goes k kd f w t (Ok tt) w₁ t₁ → Goes k kd g w₁ t₁ r w₂ t₂ → Goes k kd (λ s. onward (f s).1 (f s).0 g) w t r w₂ t₂
-  then-goes f g w w₁ w₂ t t₁ t₂ r a b =
+  then_goes f g w w₁ w₂ t t₁ t₂ r a b =
       let on : (s : Stage) → At k kd s w t → onward (f s).1 (f s).0 g ≡ g (f s).0 = λ s h. ap (λ (z : Result (Unit {0}) WorkFault). onward z (f s).0 g) (sym (a.answer s h)) in
       record {
         long = b.long ∙ a.long;
@@ -79,19 +79,19 @@ module _ {S A X P Q : Type 0} (k : Ghosts S) (kd : Kind A X P Q) where
   module _ (f : Stage → Reached) (n c : ℕ) (w₀ w w' : Workpiece S) (t₀ t t' : List X) (r : Result (Unit {0}) WorkFault)
       (before : Goes k kd (repeated f n) w₀ t₀ (Ok tt) w t) (turn : Goes k kd f w t r w' t') where
     once_more : Goes k kd (repeated f (n + 1)) w₀ t₀ r w' t'
-    once_more = more f n w₀ w' t₀ t' r (then-goes (repeated f n) f w₀ w w' t₀ t t' r before turn)
+    once_more = more f n w₀ w' t₀ t' r (then_goes (repeated f n) f w₀ w w' t₀ t t' r before turn)
 
-    pub turn-goes : r ≡ Ok tt → Goes k kd (repeated f (n + 1)) w₀ t₀ (Ok tt) w' t'
-    turn-goes e = subst (λ (x : Result (Unit {0}) WorkFault). Goes k kd (repeated f (n + 1)) w₀ t₀ x w' t') e once_more
+    pub turn_goes : r ≡ Ok tt → Goes k kd (repeated f (n + 1)) w₀ t₀ (Ok tt) w' t'
+    turn_goes e = subst (λ (x : Result (Unit {0}) WorkFault). Goes k kd (repeated f (n + 1)) w₀ t₀ x w' t') e once_more
 
-    pub turn-ends : (q : Result (Unit {0}) WorkFault) (y z : WorkFault) → n < c → r ≡ Err y → q ≡ Err z → z ≡ y → Goes k kd (repeated f c) w₀ t₀ q w' t'
-    turn-ends q y z l e u v =
+    pub turn_ends : (q : Result (Unit {0}) WorkFault) (y z : WorkFault) → n < c → r ≡ Err y → q ≡ Err z → z ≡ y → Goes k kd (repeated f c) w₀ t₀ q w' t'
+    turn_ends q y z l e u v =
         subst (λ (x : Result (Unit {0}) WorkFault). Goes k kd (repeated f c) w₀ t₀ x w' t') (sym (u ∙ ap Err v))
         (subst (λ (x : ℕ). Goes k kd (repeated f x) w₀ t₀ (Err y) w' t') (let m : n + 1 + (c - (n + 1)) ≡ c = omega arith in m)
         (rest_goes f (n + 1) (c - (n + 1)) w₀ w' t₀ t' y (subst (λ (x : Result (Unit {0}) WorkFault). Goes k kd (repeated f (n + 1)) w₀ t₀ x w' t') e once_more)))
 
-  pub all-goes : (f : Stage → Reached) (n c : ℕ) (w w' : Workpiece S) (t t' : List X) → n ≡ c → Goes k kd (repeated f n) w t (Ok tt) w' t' → Goes k kd (repeated f c) w t (Ok tt) w' t'
-  all-goes f n c w w' t t' e a = subst (λ (x : ℕ). Goes k kd (repeated f x) w t (Ok tt) w' t') e a
+  pub all_goes : (f : Stage → Reached) (n c : ℕ) (w w' : Workpiece S) (t t' : List X) → n ≡ c → Goes k kd (repeated f n) w t (Ok tt) w' t' → Goes k kd (repeated f c) w t (Ok tt) w' t'
+  all_goes f n c w w' t t' e a = subst (λ (x : ℕ). Goes k kd (repeated f x) w t (Ok tt) w' t') e a
 
   -- the same reckoning with one call more
   kept : (call : Call) (w w' : Workpiece S) (t t' : List X) → Keeps kd.width kd.slack call (work k w) (map (place kd) t) (work k w') (map (place kd) t')
@@ -106,10 +106,10 @@ module _ {S A X P Q : Type 0} (k : Ghosts S) (kd : Kind A X P Q) where
   told_at B w t R y tell f = tell R [] (subst (Faithful kd.width kd.slack R (work k w)) (sym (append-nil (map (place kd) t))) f)
 
   module _ (w w' : Workpiece S) (t t' : List X) where
-    split-point : (s : Stage) → At k kd s w t → (r : Result (Unit {0}) WorkFault) → SplitDone k kd w t r w' t' → (h : ℕ)
+    split_point : (s : Stage) → At k kd s w t → (r : Result (Unit {0}) WorkFault) → SplitDone k kd w t r w' t' → (h : ℕ)
         → h < (step s.reckoning (Call.split (length t))).carrier.n → get_or (map (place kd) t') h [] ≡ (splitting (length t) s).0.point h
     unfolding splitting
-    split-point s a r d h l = ⊎_elim yes no (cases_Bool (may_split R.splits R.carrier.n (length t)))
+    split_point s a r d h l = ⊎_elim yes no (cases_Bool (may_split R.splits R.carrier.n (length t)))
       where
         R : Reckoning
         R = s.reckoning
@@ -131,10 +131,10 @@ module _ {S A X P Q : Type 0} (k : Ghosts S) (kd : Kind A X P Q) where
             ∙ a.points h (subst (λ (x : Reckoning). h < x.carrier.n) (cond-false _ (after_split R) R e) l)
             ∙ ap (λ (f : ℕ → Point). f h) (sym (cond-false _ (λ x. s.point (x / 4)) s.point e))
 
-    average-point : (s : Stage) → At k kd s w t → (r : Result ℕ WorkFault) → AverageDone k kd w t r w' t' → (h : ℕ)
+    average_point : (s : Stage) → At k kd s w t → (r : Result ℕ WorkFault) → AverageDone k kd w t r w' t' → (h : ℕ)
         → h < (step s.reckoning (Call.average (length t))).carrier.n → get_or (map (place kd) t') h [] ≡ (averaging kd.width (mean_point kd) (length t) s).0.point h
     unfolding averaging
-    average-point s a r d h l = ⊎_elim yes no (cases_Bool (may_average R.averages R.carrier.n (length t)))
+    average_point s a r d h l = ⊎_elim yes no (cases_Bool (may_average R.averages R.carrier.n (length t)))
       where
         R : Reckoning
         R = s.reckoning
@@ -155,8 +155,8 @@ module _ {S A X P Q : Type 0} (k : Ghosts S) (kd : Kind A X P Q) where
             let low : h < (work k w).carrier.n = subst (λ (n : ℕ). h < n) (sym a.faithful.carried.n) high in
             (d.accepted (same true e)).1.here h low
             ∙ ap (λ ps. mean_point kd (length round) (totals kd.width ps))
-            (same_map (λ x. get_or (map (place kd) t) x []) s.point round (λ x m. a.points x (up x (ring-inside (face_rounds law) h x low m))))
-            ∙ ap (λ (xs : List ℕ). mean_point kd (length xs) (totals kd.width (map s.point xs))) (sym (same-face (work k w).carrier R.carrier law a.faithful.carried h low))
+            (same_map (λ x. get_or (map (place kd) t) x []) s.point round (λ x m. a.points x (up x (ring_inside (face_rounds law) h x low m))))
+            ∙ ap (λ (xs : List ℕ). mean_point kd (length xs) (totals kd.width (map s.point xs))) (sym (same_face (work k w).carrier R.carrier law a.faithful.carried h low))
             ∙ ap (λ (f : ℕ → Point). f h) (sym (cond-true _ (face_mean kd.width (mean_point kd) s) s.point e))
 
         no : may_average R.averages R.carrier.n (length t) ≡ false → get_or (map (place kd) t') h [] ≡ (averaging kd.width (mean_point kd) (length t) s).0.point h
@@ -165,44 +165,44 @@ module _ {S A X P Q : Type 0} (k : Ghosts S) (kd : Kind A X P Q) where
             ∙ a.points h (subst (λ (x : Reckoning). h < x.carrier.n) (cond-false _ (after_average R) R e) l)
             ∙ ap (λ (f : ℕ → Point). f h) (sym (cond-false _ (face_mean kd.width (mean_point kd) s) s.point e))
 
-    split-on : (r : Result (Unit {0}) WorkFault) → SplitDone k kd w t r w' t' → length t' ≡ length t → Goes k kd (splitting (length t)) w t r w' t'
+    split_on : (r : Result (Unit {0}) WorkFault) → SplitDone k kd w t r w' t' → length t' ≡ length t → Goes k kd (splitting (length t)) w t r w' t'
     unfolding splitting
-    split-on r d long = record {
+    split_on r d long = record {
       long = long;
       answer = λ s a. split_is {P = P} r _ (told_at (λ R y. ◌≡◌ {A = Answer P} (An.Split y) (An.Split (split_answer R.splits R.carrier.n (length t)))) w t s.reckoning r d.told a.faithful);
-      comes = λ s a. record { faithful = kept (Call.split (length t)) w w' t t' d.faithful s.reckoning a.faithful; points = split-point s a r d };
+      comes = λ s a. record { faithful = kept (Call.split (length t)) w w' t t' d.faithful s.reckoning a.faithful; points = split_point s a r d };
     }
 
-    average-on : (r : Result ℕ WorkFault) → AverageDone k kd w t r w' t' → length t' ≡ length t → Goes k kd (averaging kd.width (mean_point kd) (length t)) w t (done r) w' t'
+    average_on : (r : Result ℕ WorkFault) → AverageDone k kd w t r w' t' → length t' ≡ length t → Goes k kd (averaging kd.width (mean_point kd) (length t)) w t (done r) w' t'
     unfolding averaging
-    average-on r d long = record {
+    average_on r d long = record {
       long = long;
       answer = λ s a. ap done (average_is {P = P} r _ (told_at (λ R y. ◌≡◌ {A = Answer P} (An.Average y) (An.Average (average_answer R.averages R.carrier (length t)))) w t s.reckoning r d.told a.faithful));
-      comes = λ s a. record { faithful = kept (Call.average (length t)) w w' t t' d.faithful s.reckoning a.faithful; points = average-point s a r d };
+      comes = λ s a. record { faithful = kept (Call.average (length t)) w w' t t' d.faithful s.reckoning a.faithful; points = average_point s a r d };
     }
 
     pub split_goes : (len : ℕ) → length t ≡ len → (r : Result (Unit {0}) WorkFault) → SplitDone k kd w t r w' t' → length t' ≡ length t → Goes k kd (splitting len) w t r w' t'
-    split_goes len e r d long = subst (λ (n : ℕ). Goes k kd (splitting n) w t r w' t') e (split-on r d long)
+    split_goes len e r d long = subst (λ (n : ℕ). Goes k kd (splitting n) w t r w' t') e (split_on r d long)
 
-    pub average-goes : (len : ℕ) → length t ≡ len → (r : Result ℕ WorkFault) → AverageDone k kd w t r w' t' → length t' ≡ length t
+    pub average_goes : (len : ℕ) → length t ≡ len → (r : Result ℕ WorkFault) → AverageDone k kd w t r w' t' → length t' ≡ length t
         → Goes k kd (averaging kd.width (mean_point kd) len) w t (done r) w' t'
-    average-goes len e r d long = subst (λ (n : ℕ). Goes k kd (averaging kd.width (mean_point kd) n) w t (done r) w' t') e (average-on r d long)
+    average_goes len e r d long = subst (λ (n : ℕ). Goes k kd (averaging kd.width (mean_point kd) n) w t (done r) w' t') e (average_on r d long)
 
     -- a level whose split is declined
-    pub level-ends : (len degree : ℕ) → length t ≡ len → (r : Result (Unit {0}) WorkFault) (e : WorkFault) → r ≡ Err e → SplitDone k kd w t r w' t' → length t' ≡ length t
+    pub level_ends : (len degree : ℕ) → length t ≡ len → (r : Result (Unit {0}) WorkFault) (e : WorkFault) → r ≡ Err e → SplitDone k kd w t r w' t' → length t' ≡ length t
         → Goes k kd (level kd.width (mean_point kd) len degree) w t r w' t'
     unfolding level
-    level-ends len degree l r e q d long =
+    level_ends len degree l r e q d long =
         subst (λ (x : Result (Unit {0}) WorkFault). Goes k kd (level kd.width (mean_point kd) len degree) w t x w' t') (sym q)
         (stop_goes (splitting len) (averages kd.width (mean_point kd) len degree) w w' t t' e
         (subst (λ (x : Result (Unit {0}) WorkFault). Goes k kd (splitting len) w t x w' t') q (split_goes len l r d long)))
 
     -- a level whose split is accepted: its averages decide
-    pub level-goes : (len degree : ℕ) → length t ≡ len → (r q : Result (Unit {0}) WorkFault) (u : Unit {0}) → r ≡ Ok u → SplitDone k kd w t r w' t' → length t' ≡ length t
+    pub level_goes : (len degree : ℕ) → length t ≡ len → (r q : Result (Unit {0}) WorkFault) (u : Unit {0}) → r ≡ Ok u → SplitDone k kd w t r w' t' → length t' ≡ length t
         → (w'' : Workpiece S) (t'' : List X) → Goes k kd (averages kd.width (mean_point kd) (length t') degree) w' t' q w'' t''
         → Goes k kd (level kd.width (mean_point kd) len degree) w t q w'' t''
     unfolding level
-    level-goes len degree l r q u e d long w'' t'' rest =
-        then-goes (splitting len) (averages kd.width (mean_point kd) len degree) w w' w'' t t' t'' q
+    level_goes len degree l r q u e d long w'' t'' rest =
+        then_goes (splitting len) (averages kd.width (mean_point kd) len degree) w w' w'' t t' t'' q
         (subst (λ (x : Result (Unit {0}) WorkFault). Goes k kd (splitting len) w t x w' t') e (split_goes len l r d long))
         (subst (λ (n : ℕ). Goes k kd (averages kd.width (mean_point kd) n degree) w' t' q w'' t'') (long ∙ l) rest)

@@ -5,16 +5,16 @@ use Rattle.std.proofs.lemmas.Int.{ints}
 use Rattle.std.proofs.lemmas.Bool.{cond-true, le-leb}
 use Rattle.mesh.specs.Mesh.{Mesh, Lawful, Same, ring, turn, dual, quad}
 use Rattle.mesh.specs.Count.{sum, bit, leads, rings, faces, vertices, edges, figure, split, DualCounts, QuadCounts, SplitCounts}
-use Rattle.mesh.proofs.Rings.{Keeps, inverse-long}
-use Rattle.mesh.proofs.DualLaws.{turn_below, dual-lawful, dual-turn}
-use Rattle.mesh.proofs.QuadLaws.{quad-lawful, next0, next1, next2, next3, turn0, turn1, turn2, turn3}
-use Rattle.mesh.proofs.QuadRings.{quad-vertex, quad-middle}
+use Rattle.mesh.proofs.Rings.{Keeps, inverse_long}
+use Rattle.mesh.proofs.DualLaws.{turn_below, dual_lawful, dual_turn}
+use Rattle.mesh.proofs.QuadLaws.{quad_lawful, next0, next1, next2, next3, turn0, turn1, turn2, turn3}
+use Rattle.mesh.proofs.QuadRings.{quad_vertex, quad_middle}
 use Rattle.mesh.proofs.Sums.{Swaps, sum_same, sum_add, sum_zero, sum_one, sum_moved, sum_four}
-use Rattle.mesh.proofs.Leads.{leads_same, leads_along, leads_back, rings_same, Four, four_next, decides_four, vertices-same, faces-same}
+use Rattle.mesh.proofs.Leads.{leads_same, leads_along, leads_back, rings_same, Four, four_next, decides_four, vertices_same, faces_same}
 
 -- ---- dual
 pub vertices_dual : (m : Mesh) → Lawful m → vertices (dual m) ≡ faces m
-vertices_dual m l = sym (rings_same m.n m.next (turn (dual m)) l.next_below (λ h b. sym (dual-turn m l h b)))
+vertices_dual m l = sym (rings_same m.n m.next (turn (dual m)) l.next_below (λ h b. sym (dual_turn m l h b)))
 
 -- ---- faces of four darts, each led by its dart 0
 not_true : (b : Bool) → (b ≡ true → ⊥) → bit b ≡ 0
@@ -77,8 +77,8 @@ module _ (m : Mesh) (l : Lawful m) (T : ℕ → ℕ)
     (s2 : (h : ℕ) → h < m.n → length (ring T (4 * h + 2)) ≡ length (ring m.next h))
   where
     -- the ring of four round the middle of an edge
-    round-edge : (h : ℕ) → h < m.n → Four T (4 * h + 1) (4 * m.next h + 3) (4 * m.twin h + 1) (4 * m.next (m.twin h) + 3)
-    round-edge h b =
+    round_edge : (h : ℕ) → h < m.n → Four T (4 * h + 1) (4 * m.next h + 3) (4 * m.twin h + 1) (4 * m.next (m.twin h) + 3)
+    round_edge h b =
         record {
           first = t1 h;
           second = t3 (m.next h) ∙ ap (λ x. 4 * m.twin x + 1) (l.prev_next h b);
@@ -90,7 +90,7 @@ module _ (m : Mesh) (l : Lawful m) (T : ℕ → ℕ)
     edge_leads : (h : ℕ) → h < m.n →
         (bit (leads T (4 * h + 1)) + bit (leads T (4 * m.next h + 3))) + (bit (leads T (4 * m.twin h + 1)) + bit (leads T (4 * m.next (m.twin h) + 3))) ≡ 1
     edge_leads h b =
-        let q = round-edge h b in
+        let q = round_edge h b in
         one_least _ _ _ _ (4 * h + 1) (4 * m.next h + 3) (4 * m.twin h + 1) (4 * m.next (m.twin h) + 3)
         (λ e. l.twin_other h b (omega arith))
         (λ e. l.twin_other h b (sym (l.prev_next (m.twin h) (l.twin_below h b)) ∙ ap m.prev (omega arith) ∙ l.prev_next h b))
@@ -104,8 +104,8 @@ module _ (m : Mesh) (l : Lawful m) (T : ℕ → ℕ)
         (bit_least _ _ _ _ _ (decides_four T _ _ _ _ (four_next (four_next (four_next q)))))
 
     -- twice the edge middles are the darts
-    edge-middles : 2 * (sum (λ h. bit (leads T (4 * h + 1))) m.n + sum (λ h. bit (leads T (4 * h + 3))) m.n) ≡ m.n
-    edge-middles =
+    edge_middles : 2 * (sum (λ h. bit (leads T (4 * h + 1))) m.n + sum (λ h. bit (leads T (4 * h + 3))) m.n) ≡ m.n
+    edge_middles =
         let A : ℕ → ℕ = λ h. bit (leads T (4 * h + 1)) in
         let B : ℕ → ℕ = λ h. bit (leads T (4 * h + 3)) in
         let C : ℕ → ℕ = λ h. A h + B (m.next h) in
@@ -118,22 +118,22 @@ module _ (m : Mesh) (l : Lawful m) (T : ℕ → ℕ)
         let e5 : sum (λ h. C h + C (m.twin h)) m.n ≡ m.n = sum_same m.n (λ h. C h + C (m.twin h)) (λ h. 1) edge_leads ∙ sum_one m.n in
         omega arith
 
-    even-by : 2 * (m.n / 2) ≡ m.n
-    even-by = omega (arith, edge-middles)
+    even_by : 2 * (m.n / 2) ≡ m.n
+    even_by = omega (arith, edge_middles)
 
-    vertices-four : rings T (4 * m.n) ≡ vertices m + edges m + faces m
-    vertices-four =
+    vertices_four : rings T (4 * m.n) ≡ vertices m + edges m + faces m
+    vertices_four =
         let e0 : sum (λ h. bit (leads T (4 * h))) m.n ≡ vertices m =
         sum_same m.n _ _ (λ h b. ap bit (leads_along m.n (turn m) T (λ x. 4 * x) (turn_below m l) (λ x _. t0 x)
         (λ x y k. omega arith) (λ x y k. omega arith) h b (l.vertices_short h b) (omega (arith, s0 h b, l.vertices_short h b)))) in
         let e2 : sum (λ h. bit (leads T (4 * h + 2))) m.n ≡ faces m =
         sum_same m.n _ _ (λ h b. ap bit (middle h b)) in
-        omega (arith, sum_four m.n (λ h. bit (leads T h)), edge-middles)
+        omega (arith, sum_four m.n (λ h. bit (leads T h)), edge_middles)
       where
         middle : (h : ℕ) → h < m.n → leads T (4 * h + 2) ≡ leads m.next h
         middle h b =
             let e : length (ring m.prev h) ≡ length (ring m.next h) =
-            inverse-long m.n m.next m.prev l.next_below l.prev_below l.prev_next l.next_prev h b (l.faces_short h b) in
+            inverse_long m.n m.next m.prev l.next_below l.prev_below l.prev_next l.next_prev h b (l.faces_short h b) in
             leads_along m.n m.prev T (λ x. 4 * x + 2) l.prev_below (λ x _. t2 x) (λ x y k. omega arith) (λ x y k. omega arith) h b
             (omega (arith, e, l.faces_short h b)) (omega (arith, s2 h b, l.faces_short h b))
             ∙ leads_back m.n m.next m.prev l.next_below l.prev_below l.prev_next l.next_prev h b (l.faces_short h b)
@@ -142,11 +142,11 @@ diff_same : (a b c d : ℕ) → a + d ≡ c + b → pos a -ℤ pos b ≡ pos c -
 diff_same a b c d e = omega (arith, ints)
 
 pub even : (m : Mesh) → Lawful m → 2 * edges m ≡ m.n
-even m l = even-by m l (turn (quad m)) (turn0 m) (turn1 m) (turn2 m) (turn3 m) (quad-vertex m l) (quad-middle m l)
+even m l = even_by m l (turn (quad m)) (turn0 m) (turn1 m) (turn2 m) (turn3 m) (quad_vertex m l) (quad_middle m l)
 
 pub figure_same : {a b : Mesh} → Lawful a → Same a b → figure a ≡ figure b
 figure_same {a} {b} l s =
-    ap (λ x. pos x -ℤ pos (edges a)) (ap₂ ◌+◌ (vertices-same a b l s) (faces-same a b l s)) ∙ ap (λ n. pos (vertices b + faces b) -ℤ pos (n / 2)) s.n
+    ap (λ x. pos x -ℤ pos (edges a)) (ap₂ ◌+◌ (vertices_same a b l s) (faces_same a b l s)) ∙ ap (λ n. pos (vertices b + faces b) -ℤ pos (n / 2)) s.n
 
 pub figure_dual : (m : Mesh) → Lawful m → figure (dual m) ≡ figure m
 figure_dual m l =
@@ -154,40 +154,40 @@ figure_dual m l =
 
 -- a Quad that is not cut off
 module _ (m : Mesh) (l : Lawful m) (small : m.n ≤ 262144) where
-  pub quad-size : (quad m).n ≡ 4 * m.n
-  quad-size = cond-true (leb m.n 262144) (4 * m.n) 0 (le-leb m.n 262144 small)
+  pub quad_size : (quad m).n ≡ 4 * m.n
+  quad_size = cond-true (leb m.n 262144) (4 * m.n) 0 (le-leb m.n 262144 small)
 
-  pub faces-quad : faces (quad m) ≡ m.n
-  faces-quad = ap (rings (quad m).next) quad-size ∙ faces_four m.n (quad m).next (round_quad m)
+  pub faces_quad : faces (quad m) ≡ m.n
+  faces_quad = ap (rings (quad m).next) quad_size ∙ faces_four m.n (quad m).next (round_quad m)
 
-  pub vertices-quad : vertices (quad m) ≡ vertices m + edges m + faces m
-  vertices-quad =
-      ap (rings (turn (quad m))) quad-size
-      ∙ vertices-four m l (turn (quad m)) (turn0 m) (turn1 m) (turn2 m) (turn3 m) (quad-vertex m l) (quad-middle m l)
+  pub vertices_quad : vertices (quad m) ≡ vertices m + edges m + faces m
+  vertices_quad =
+      ap (rings (turn (quad m))) quad_size
+      ∙ vertices_four m l (turn (quad m)) (turn0 m) (turn1 m) (turn2 m) (turn3 m) (quad_vertex m l) (quad_middle m l)
 
-  pub edges-quad : edges (quad m) ≡ 2 * m.n
-  edges-quad = ap (λ x. x / 2) quad-size ∙ (let q : 4 * m.n / 2 ≡ 2 * m.n = omega arith in q)
+  pub edges_quad : edges (quad m) ≡ 2 * m.n
+  edges_quad = ap (λ x. x / 2) quad_size ∙ (let q : 4 * m.n / 2 ≡ 2 * m.n = omega arith in q)
 
-  pub figure-quad : figure (quad m) ≡ figure m
-  figure-quad =
+  pub figure_quad : figure (quad m) ≡ figure m
+  figure_quad =
       diff_same (vertices (quad m) + faces (quad m)) (edges (quad m)) (vertices m + faces m) (edges m)
-      (omega (arith, vertices-quad, faces-quad, edges-quad, even m l))
+      (omega (arith, vertices_quad, faces_quad, edges_quad, even m l))
 
-  pub figure-split : figure (split m) ≡ figure m
-  figure-split = figure_dual (quad m) (quad-lawful m l) ∙ figure-quad
+  pub figure_split : figure (split m) ≡ figure m
+  figure_split = figure_dual (quad m) (quad_lawful m l) ∙ figure_quad
 
 pub dual_counts : (m : Mesh) → Lawful m → DualCounts m
 dual_counts m l = record { vertices_are = vertices_dual m l; edges_are = refl; faces_are = refl; figure_is = figure_dual m l }
 
 pub quad_counts : (m : Mesh) → Lawful m → m.n ≤ 262144 → QuadCounts m
 quad_counts m l b =
-    record { vertices_are = vertices-quad m l b; edges_are = edges-quad m l b; faces_are = faces-quad m l b; figure_is = figure-quad m l b }
+    record { vertices_are = vertices_quad m l b; edges_are = edges_quad m l b; faces_are = faces_quad m l b; figure_is = figure_quad m l b }
 
 pub split_counts : (m : Mesh) → Lawful m → m.n ≤ 262144 → SplitCounts m
 split_counts m l b =
     record {
-      vertices_are = vertices_dual (quad m) (quad-lawful m l) ∙ faces-quad m l b;
-      edges_are = edges-quad m l b;
-      faces_are = vertices-quad m l b;
-      figure_is = figure-split m l b;
+      vertices_are = vertices_dual (quad m) (quad_lawful m l) ∙ faces_quad m l b;
+      edges_are = edges_quad m l b;
+      faces_are = vertices_quad m l b;
+      figure_is = figure_split m l b;
     }

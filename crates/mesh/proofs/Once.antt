@@ -5,7 +5,7 @@ use Rattle.mesh.specs.Mesh.{times, ring, Short}
 use Rattle.mesh.specs.Count.{count, leads, rings, Once, Classes}
 use Rattle.mesh.proofs.Rings.{Keeps, times_zero, times_add, times_keeps, on_steps, on_sym}
 use Rattle.mesh.proofs.Leads.{decides_leads}
-use Rattle.mesh.proofs.Ranks.{rank_below, rank_same, rank-every}
+use Rattle.mesh.proofs.Ranks.{rank_below, rank_same, rank_every}
 
 -- the smallest of the first darts
 least : (f : ℕ → ℕ) (h k : ℕ) → (j : ℕ) × ((i : ℕ) → i < suc k → times j f h ≤ times i f h)
@@ -78,7 +78,7 @@ module _ (n : ℕ) (f : ℕ → ℕ) (below : Keeps n f) (short : Short n f) whe
 
       all : (x : ℕ) → x < rings f n → (h : ℕ) × (h < n) × (number h ≡ x)
       all x l =
-          let r = rank-every (leads f) n x l in
+          let r = rank_every (leads f) n x l in
           let h = r.0 in
           let own : h ≡ lead h = sym (times_zero f h) ∙ (once h r.1).only 0 (ap (leads f) (times_zero f h) ∙ r.2) in
           (h, r.1, ap (count (leads f)) (sym own) ∙ r.3)

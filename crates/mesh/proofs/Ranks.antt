@@ -23,10 +23,10 @@ module _ (p : ℕ → Bool) where
       (cases_lt x y)
 
   -- each rank is some marked number's
-  pub rank-every : (n i : ℕ) → i < count p n → (x : ℕ) × (x < n) × (p x ≡ true) × (count p x ≡ i)
-  rank-every zero i l = absurd (omega (arith, count_none p))
-  rank-every (suc n) i l =
-      ⊎_elim (λ (k : i < count p n). let r = rank-every n i k in (r.0, omega (arith, r.1), r.2, r.3)) (λ (k : count p n ≤ i). last (p n) refl k) (cases_lt i (count p n))
+  pub rank_every : (n i : ℕ) → i < count p n → (x : ℕ) × (x < n) × (p x ≡ true) × (count p x ≡ i)
+  rank_every zero i l = absurd (omega (arith, count_none p))
+  rank_every (suc n) i l =
+      ⊎_elim (λ (k : i < count p n). let r = rank_every n i k in (r.0, omega (arith, r.1), r.2, r.3)) (λ (k : count p n ≤ i). last (p n) refl k) (cases_lt i (count p n))
     where
       last : (b : Bool) → p n ≡ b → count p n ≤ i → (x : ℕ) × (x < suc n) × (p x ≡ true) × (count p x ≡ i)
       last true e k = (n, omega arith, e, omega (arith, step n, ap bit e))

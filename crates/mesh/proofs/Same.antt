@@ -5,7 +5,7 @@ use Rattle.mesh.specs.Rungs.{rung, level}
 use Rattle.mesh.proofs.Rings.{ring_agree}
 use Rattle.mesh.proofs.QuadLaws.{four, into, twin0, twin1, twin2, twin3}
 use Rattle.mesh.proofs.RungLaws.{level_lawful}
-use Rattle.mesh.proofs.DualLaws.{turn_below, dual-lawful}
+use Rattle.mesh.proofs.DualLaws.{turn_below, dual_lawful}
 
 pub same_refl : (m : Mesh) → Same m m
 same_refl m = record { n = refl; next = λ h b. refl; prev = λ h b. refl; twin = λ h b. refl }
@@ -31,8 +31,8 @@ module _ (a b : Mesh) (l : Lawful a) (s : Same a b) where
   turned h k = sym (s.next (a.twin h) (l.twin_below h k) ∙ ap b.next (s.twin h k))
 
   -- what means the same as a lawful mesh is lawful
-  pub same-lawful : Lawful b
-  same-lawful =
+  pub same_lawful : Lawful b
+  same_lawful =
       record {
         few = subst (λ (x : ℕ). x ≤ 1048576) s.n l.few;
         next_below = under _ (λ h k. below b.next (a.next h) h (s.next h k) (l.next_below h k));
@@ -50,14 +50,14 @@ module _ (a b : Mesh) (l : Lawful a) (s : Same a b) where
   pub same_turn : (h : ℕ) → h < a.n → turn a h ≡ turn b h
   same_turn h k = s.next (a.twin h) (l.twin_below h k) ∙ ap b.next (s.twin h k)
 
-  same-unturn : (h : ℕ) → h < a.n → a.twin (a.prev h) ≡ b.twin (b.prev h)
-  same-unturn h k = s.twin (a.prev h) (l.prev_below h k) ∙ ap b.twin (s.prev h k)
+  same_unturn : (h : ℕ) → h < a.n → a.twin (a.prev h) ≡ b.twin (b.prev h)
+  same_unturn h k = s.twin (a.prev h) (l.prev_below h k) ∙ ap b.twin (s.prev h k)
 
-  pub same-dual : Same (dual a) (dual b)
-  same-dual = record { n = s.n; next = same_turn; prev = same-unturn; twin = s.twin }
+  pub same_dual : Same (dual a) (dual b)
+  same_dual = record { n = s.n; next = same_turn; prev = same_unturn; twin = s.twin }
 
-  pub same-quad : Same (quad a) (quad b)
-  same-quad =
+  pub same_quad : Same (quad a) (quad b)
+  same_quad =
       record {
         n = ap (λ x. cond (leb x 262144) (4 * x) 0) s.n;
         next = λ d k. refl;
@@ -67,19 +67,19 @@ module _ (a b : Mesh) (l : Lawful a) (s : Same a b) where
             (λ h c. twin0 a h ∙ ap (λ x. 4 * x + 3) (same_turn h c) ∙ sym (twin0 b h))
             (λ h c. twin1 a h ∙ ap (λ x. 4 * x + 2) (s.next h c) ∙ sym (twin1 b h))
             (λ h c. twin2 a h ∙ ap (λ x. 4 * x + 1) (s.prev h c) ∙ sym (twin2 b h))
-            (λ h c. twin3 a h ∙ ap (λ x. 4 * x) (same-unturn h c) ∙ sym (twin3 b h));
+            (λ h c. twin3 a h ∙ ap (λ x. 4 * x) (same_unturn h c) ∙ sym (twin3 b h));
       }
 
   -- the same rings
-  pub same-face : (h : ℕ) → h < a.n → ring b.next h ≡ ring a.next h
-  same-face = ring_agree a.n a.next b.next l.next_below (λ x k. sym (s.next x k))
+  pub same_face : (h : ℕ) → h < a.n → ring b.next h ≡ ring a.next h
+  same_face = ring_agree a.n a.next b.next l.next_below (λ x k. sym (s.next x k))
 
-  pub same-vertex : (h : ℕ) → h < a.n → ring (turn b) h ≡ ring (turn a) h
-  same-vertex = ring_agree a.n (turn a) (turn b) (turn_below a l) (λ x k. sym (same_turn x k))
+  pub same_vertex : (h : ℕ) → h < a.n → ring (turn b) h ≡ ring (turn a) h
+  same_vertex = ring_agree a.n (turn a) (turn b) (turn_below a l) (λ x k. sym (same_turn x k))
 
 pub same_rung : (b : Bool) (m k : Mesh) → Lawful m → Same m k → Same (rung b m) (rung b k)
-same_rung true m k l s = same-quad (dual m) (dual k) (dual-lawful m l) (same-dual m k l s)
-same_rung false m k l s = same-quad m k l s
+same_rung true m k l s = same_quad (dual m) (dual k) (dual_lawful m l) (same_dual m k l s)
+same_rung false m k l s = same_quad m k l s
 
 pub same_trans : {a b c : Mesh} → Same a b → Same b c → Same a c
 same_trans p q =
@@ -101,7 +101,7 @@ same_sym {a} {b} s =
     }
 
 pub flipped_lawful : (b : Bool) (m : Mesh) → Lawful m → Lawful (flipped b m)
-flipped_lawful true m l = dual-lawful m l
+flipped_lawful true m l = dual_lawful m l
 flipped_lawful false m l = l
 
 -- the other flag is a Dual more

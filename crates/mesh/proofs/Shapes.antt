@@ -3,11 +3,11 @@ use Rattle.std.proofs.Common.{◌≡◌, ℕ, zero, suc, ◌+◌, ◌*◌, ◌<�
 use Rattle.mesh.specs.Mesh.{Mesh, Lawful, times, turn, ring, quad}
 use Rattle.mesh.specs.Count.{split}
 use Rattle.mesh.specs.Shapes.{four_of, SplitShape}
-use Rattle.mesh.proofs.Rings.{Keeps, orbit, ring_orbit, ring_exact, times_zero, times_suc, inverse-long}
-use Rattle.mesh.proofs.DualLaws.{turn_below, dual-vertex}
-use Rattle.mesh.proofs.QuadLaws.{quad-lawful, next0, next1, next2, turn0, turn1, turn2, turn3}
-use Rattle.mesh.proofs.QuadRings.{along_long, quad-face}
-use Rattle.mesh.proofs.Figures.{quad-size}
+use Rattle.mesh.proofs.Rings.{Keeps, orbit, ring_orbit, ring_exact, times_zero, times_suc, inverse_long}
+use Rattle.mesh.proofs.DualLaws.{turn_below, dual_vertex}
+use Rattle.mesh.proofs.QuadLaws.{quad_lawful, next0, next1, next2, turn0, turn1, turn2, turn3}
+use Rattle.mesh.proofs.QuadRings.{along_long, quad_face}
+use Rattle.mesh.proofs.Figures.{quad_size}
 
 orbit_along : (n : ℕ) (f F e : ℕ → ℕ) → Keeps n f → ((x : ℕ) → x < n → F (e x) ≡ e (f x)) → (k h : ℕ) → h < n → orbit k F (e h) ≡ map e (orbit k f h)
 orbit_along n f F e keeps along zero h b = refl
@@ -27,14 +27,14 @@ orbit_four f x y z w a b c =
     ap (λ u. four_of x u (f u) (f (f u))) a ∙ ap (λ u. four_of x y u (f u)) b ∙ ap (four_of x y z) c
 
 module _ (m : Mesh) (l : Lawful m) (small : m.n ≤ 262144) where
-  corner-ring : (h : ℕ) → h < m.n → ring (turn (split m)) (4 * h) ≡ four_of (4 * h) (4 * h + 1) (4 * h + 2) (4 * h + 3)
-  corner-ring h b =
-      dual-vertex (quad m) (quad-lawful m l) (4 * h) (omega (arith, quad-size m l small))
-      ∙ ring_orbit (quad m).next (4 * h) ∙ ap (λ k. orbit k (quad m).next (4 * h)) (quad-face m l (4 * h) (omega arith))
+  corner_ring : (h : ℕ) → h < m.n → ring (turn (split m)) (4 * h) ≡ four_of (4 * h) (4 * h + 1) (4 * h + 2) (4 * h + 3)
+  corner_ring h b =
+      dual_vertex (quad m) (quad_lawful m l) (4 * h) (omega (arith, quad_size m l small))
+      ∙ ring_orbit (quad m).next (4 * h) ∙ ap (λ k. orbit k (quad m).next (4 * h)) (quad_face m l (4 * h) (omega arith))
       ∙ orbit_four (quad m).next (4 * h) (4 * h + 1) (4 * h + 2) (4 * h + 3) (next0 m h) (next1 m h) (next2 m h)
 
-  edge-ring : (h : ℕ) → h < m.n → ring (turn (quad m)) (4 * h + 1) ≡ four_of (4 * h + 1) (4 * m.next h + 3) (4 * m.twin h + 1) (4 * turn m h + 3)
-  edge-ring h b =
+  edge_ring : (h : ℕ) → h < m.n → ring (turn (quad m)) (4 * h + 1) ≡ four_of (4 * h + 1) (4 * m.next h + 3) (4 * m.twin h + 1) (4 * turn m h + 3)
+  edge_ring h b =
       ring_orbit f x ∙ ap (λ k. orbit k f x) (ring_exact f x 4 (omega arith) (omega arith) back apart) ∙ orbit_four f x y z w s1 s2 s3
     where
       f : ℕ → ℕ
@@ -83,13 +83,13 @@ module _ (m : Mesh) (l : Lawful m) (small : m.n ≤ 262144) where
       apart (suc (suc (suc zero))) p k e = let q : 4 * turn m h + 3 ≡ 4 * h + 1 = sym t3 ∙ e in omega arith
       apart (suc (suc (suc (suc i)))) p k e = omega arith
 
-  pub split-shape : SplitShape m
-  split-shape =
+  pub split_shape : SplitShape m
+  split_shape =
       record {
-        of_corner = corner-ring;
+        of_corner = corner_ring;
         of_vertex = λ h b. ring_along m.n (turn m) (turn (quad m)) (λ x. 4 * x) (turn_below m l) (λ x _. turn0 m x) (λ x y e. omega arith) h b (l.vertices_short h b);
-        of_edge = edge-ring;
+        of_edge = edge_ring;
         of_face = λ h b.
             ring_along m.n m.prev (turn (quad m)) (λ x. 4 * x + 2) l.prev_below (λ x _. turn2 m x) (λ x y e. omega arith) h b
-            (omega (arith, l.faces_short h b, inverse-long m.n m.next m.prev l.next_below l.prev_below l.prev_next l.next_prev h b (l.faces_short h b)));
+            (omega (arith, l.faces_short h b, inverse_long m.n m.next m.prev l.next_below l.prev_below l.prev_next l.next_prev h b (l.faces_short h b)));
       }

@@ -102,11 +102,11 @@ zero_passes : (t : Bool) (e : ℤ) → eq (fin t 0 e) (fin false 0 (pos 0)) ≡ 
 unfolding eq
 zero_passes t e =
     subst (λ (x : ℕ). (eqb (x * 1) (0 * down e) && (beq t false || eqb (x * 1) 0)) ≡ true) (sym (zero-mul (up e)))
-    (subst (λ (x : ℕ). (eqb 0 x && (beq t false || true)) ≡ true) (sym (zero-mul (down e))) (or-true (beq t false)))
+    (subst (λ (x : ℕ). (eqb 0 x && (beq t false || true)) ≡ true) (sym (zero-mul (down e))) (or_true (beq t false)))
   where
-    or-true : (b : Bool) → (b || true) ≡ true
-    or-true true = refl
-    or-true false = refl
+    or_true : (b : Bool) → (b || true) ≡ true
+    or_true true = refl
+    or_true false = refl
 
 pub no_factor : (a d : ℕ) → 0 < d → a * d ≡ 0 → a ≡ 0
 no_factor zero d D h = refl

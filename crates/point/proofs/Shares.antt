@@ -10,8 +10,8 @@ abbrev Way : ℕ → ℤ → ℤ → Type 0
 Way k t w = Down k t w ⊎ Raised k t w
 
 module _ (k : ℕ) (t w v : ℤ) where
-  down-least : Down k t w → Way k t v → w ≤ℤ v
-  down-least d e =
+  down_least : Down k t w → Way k t v → w ≤ℤ v
+  down_least d e =
       ⊎_elim
       (λ x.
       let l : (pos k *ℤ w) <ℤ (pos k *ℤ (v +ℤ pos 1)) = omega (arith, ints, d.0, x.1) in
@@ -23,8 +23,8 @@ module _ (k : ℕ) (t w v : ℤ) where
       o)
       e
 
-  raised-least : Raised k t w → Raised k t v → w ≤ℤ v
-  raised-least d e =
+  raised_least : Raised k t w → Raised k t v → w ≤ℤ v
+  raised_least d e =
       let l : (pos k *ℤ (w -ℤ pos 1)) <ℤ (pos k *ℤ v) = omega (arith, ints, d.0, e.1) in
       omega (arith, ints, times_lt_out k (w -ℤ pos 1) v l)
 
@@ -35,8 +35,8 @@ module _ (k : ℕ) (t w v : ℤ) where
       times_lt_out k w v l
 
   -- a weight that is down where another is raised is below its mean
-  below-mean : Down k t w → Raised k t v → t ≤ℤ (pos k *ℤ w) → ⊥
-  below-mean d e f =
+  below_mean : Down k t w → Raised k t v → t ≤ℤ (pos k *ℤ w) → ⊥
+  below_mean d e f =
       let l : (pos k *ℤ (v -ℤ pos 1)) <ℤ (pos k *ℤ w) = omega (arith, ints, e.0, f) in
       omega (arith, ints, times_lt_out k (v -ℤ pos 1) w l, apart d e)
 
@@ -61,8 +61,8 @@ never : (k : ℕ) (t w v : ℤ) (ts ws vs : List ℤ) → length ws ≡ length t
 never k t w v ts ws vs l m a f b d e q =
     let rest : total ws ≤ℤ total vs = total_least ts ws vs l m (λ i h.
     ⊎_elim
-    (λ x. down-least k (coordinate ts i) (coordinate ws i) (coordinate vs i) x (b (suc i) (omega arith)))
-    (λ x. absurd (below-mean k t w v d e (f (suc i) 0 (omega arith) (omega arith) x)))
+    (λ x. down_least k (coordinate ts i) (coordinate ws i) (coordinate vs i) x (b (suc i) (omega arith)))
+    (λ x. absurd (below_mean k t w v d e (f (suc i) 0 (omega arith) (omega arith) x)))
     (a (suc i) (omega arith))) in
     omega (arith, ints, rest, apart k t w v d e, q)
 
@@ -70,12 +70,12 @@ heads : (k : ℕ) (t w v : ℤ) (ts ws vs : List ℤ) → length ws ≡ length t
 heads k t w v ts ws vs l m a f b g q =
     ⊎_elim
     (λ x. ⊎_elim
-    (λ y. let o : w ≡ v = omega (arith, ints, down-least k t w v x (b 0 (omega arith)), down-least k t v w y (a 0 (omega arith))) in o)
+    (λ y. let o : w ≡ v = omega (arith, ints, down_least k t w v x (b 0 (omega arith)), down_least k t v w y (a 0 (omega arith))) in o)
     (λ y. absurd (never k t w v ts ws vs l m a f b x y q))
     (b 0 (omega arith)))
     (λ x. ⊎_elim
     (λ y. absurd (never k t v w ts vs ws m l b g a y x (sym q)))
-    (λ y. let o : w ≡ v = omega (arith, ints, raised-least k t w v x y, raised-least k t v w y x) in o)
+    (λ y. let o : w ≡ v = omega (arith, ints, raised_least k t w v x y, raised_least k t v w y x) in o)
     (b 0 (omega arith)))
     (a 0 (omega arith))
 

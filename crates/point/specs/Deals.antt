@@ -79,8 +79,8 @@ dealt_whole k ts h e =
 
 -- ---- one weight
 module _ (k : ℕ) (h : 0 < k) (m : ℕ) (t : ℤ) where
-  pub weight-near : Near 2 k (floor_of k t +ℤ pos (gets k m t)) t
-  weight-near = near (gets k m t) (few (leaves k t))
+  pub weight_near : Near 2 k (floor_of k t +ℤ pos (gets k m t)) t
+  weight_near = near (gets k m t) (few (leaves k t))
     where
       few : (b : Bool) → cond b (min m 1) 0 ≤ 1
       few true = omega arith
@@ -91,11 +91,11 @@ module _ (k : ℕ) (h : 0 < k) (m : ℕ) (t : ℤ) where
       near (suc zero) l = omega (arith, ints, times_sum k (floor_of k t) (pos 1), floor_low t k h, floor_high t k h, *ℤ_comm (floor_of k t +ℤ pos 1) (pos k))
       near (suc (suc g)) l = absurd (omega arith)
 
-  pub weight-least : (lo : ℤ) → (pos k *ℤ lo) ≤ℤ t → lo ≤ℤ (floor_of k t +ℤ pos (gets k m t))
-  weight-least lo b = omega (arith, ints, floor_least t lo k h b)
+  pub weight_least : (lo : ℤ) → (pos k *ℤ lo) ≤ℤ t → lo ≤ℤ (floor_of k t +ℤ pos (gets k m t))
+  weight_least lo b = omega (arith, ints, floor_least t lo k h b)
 
-  pub weight-most : (hi : ℤ) → t ≤ℤ (pos k *ℤ hi) → (floor_of k t +ℤ pos (gets k m t)) ≤ℤ hi
-  weight-most hi b = go (leaves k t) refl
+  pub weight_most : (hi : ℤ) → t ≤ℤ (pos k *ℤ hi) → (floor_of k t +ℤ pos (gets k m t)) ≤ℤ hi
+  weight_most hi b = go (leaves k t) refl
     where
       go : (d : Bool) → leaves k t ≡ d → (floor_of k t +ℤ pos (cond d (min m 1) 0)) ≤ℤ hi
       go true e =
@@ -114,7 +114,7 @@ pub weight_range : (k : ℕ) (h : 0 < k) (m : ℕ) (t : ℤ) → Summed k t → 
 weight_range k h m t b =
     let lo : (pos k *ℤ neg_ℤ (pos coordinate_limit)) ≤ℤ t = omega (arith, ints, times_is k (neg_ℤ (pos coordinate_limit))) in
     let hi : t ≤ℤ (pos k *ℤ pos coordinate_limit) = omega (arith, ints, times_is k (pos coordinate_limit)) in
-    omega (arith, ints, weight-least k h m t (neg_ℤ (pos coordinate_limit)) lo, weight-most k h m t (pos coordinate_limit) hi)
+    omega (arith, ints, weight_least k h m t (neg_ℤ (pos coordinate_limit)) lo, weight_most k h m t (pos coordinate_limit) hi)
 
 -- ---- the weights of a mean
 pub dealt_long : (k m : ℕ) (ts : List ℤ) → length (dealt k m ts) ≡ length ts
@@ -143,8 +143,8 @@ module _ (k : ℕ) (h : 0 < k) (t : ℤ) where
         omega (arith, ints, floor_high t k h, times_sum k q (pos 1)),
       )
 
-  weight-way : (m : ℕ) → Down k t (floor_of k t +ℤ pos (gets k m t)) ⊎ Raised k t (floor_of k t +ℤ pos (gets k m t))
-  weight-way m = go (leaves k t) refl m
+  weight_way : (m : ℕ) → Down k t (floor_of k t +ℤ pos (gets k m t)) ⊎ Raised k t (floor_of k t +ℤ pos (gets k m t))
+  weight_way m = go (leaves k t) refl m
     where
       go : (b : Bool) → leaves k t ≡ b → (m : ℕ) → Down k t (floor_of k t +ℤ pos (cond b (min m 1) 0)) ⊎ Raised k t (floor_of k t +ℤ pos (cond b (min m 1) 0))
       go false e m = inl down
@@ -181,6 +181,6 @@ dealt_shares k ts h e = record {
   whole = dealt_whole k ts h e;
   each = λ i l.
       let d = dealt_at k (missing k ts) ts i l in
-      subst (λ (w : ℤ). Down k (coordinate ts i) w ⊎ Raised k (coordinate ts i) w) (sym d.1) (weight-way k h (coordinate ts i) d.0);
+      subst (λ (w : ℤ). Down k (coordinate ts i) w ⊎ Raised k (coordinate ts i) w) (sym d.1) (weight_way k h (coordinate ts i) d.0);
   first = first_raised k h (missing k ts) ts;
 }

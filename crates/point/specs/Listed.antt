@@ -34,39 +34,39 @@ total_one_more d sums p l m =
     total_sums (coordinate sums) (coordinate p) (range_with_len 0 d) ∙ ap₂ (λ (a b : List ℤ). total a +ℤ total b) (sym (coordinates_are sums d l)) (sym (coordinates_are p d m))
 
 module _ {P : Type 0} (width : ℕ) (numbers : P → Point) where
-  pub totals-total : (whole : ℤ) → ((p : P) → length (numbers p) ≡ width) → ((p : P) → total (numbers p) ≡ whole) → (ps : List P) → total (totals width (map numbers ps)) ≡ pos (length ps) *ℤ whole
-  totals-total whole l w [] = omega (arith, ints, total_zeros (range_with_len 0 width), times_is 0 whole)
-  totals-total whole l w (p ∷ ps) =
+  pub totals_total : (whole : ℤ) → ((p : P) → length (numbers p) ≡ width) → ((p : P) → total (numbers p) ≡ whole) → (ps : List P) → total (totals width (map numbers ps)) ≡ pos (length ps) *ℤ whole
+  totals_total whole l w [] = omega (arith, ints, total_zeros (range_with_len 0 width), times_is 0 whole)
+  totals_total whole l w (p ∷ ps) =
       let e = total_sums (coordinate (numbers p)) (λ i. total (map (λ q. coordinate q i) (map numbers ps))) (range_with_len 0 width) in
       let a : total (map (coordinate (numbers p)) (range_with_len 0 width)) ≡ whole = ap total (sym (coordinates_are (numbers p) width (l p))) ∙ w p in
-      omega (arith, ints, e, a, totals-total whole l w ps, times_more (length ps) whole)
+      omega (arith, ints, e, a, totals_total whole l w ps, times_more (length ps) whole)
 
   -- ---- the bounds of one total
-  column-range : ((p : P) (i : ℕ) → InRange (coordinate (numbers p) i)) → (ps : List P) (i : ℕ) → Summed (length ps) (total (map (λ p. coordinate p i) (map numbers ps)))
-  column-range w [] i = omega arith
-  column-range w (p ∷ ps) i = omega (arith, ints, w p i, column-range w ps i)
+  column_range : ((p : P) (i : ℕ) → InRange (coordinate (numbers p) i)) → (ps : List P) (i : ℕ) → Summed (length ps) (total (map (λ p. coordinate p i) (map numbers ps)))
+  column_range w [] i = omega arith
+  column_range w (p ∷ ps) i = omega (arith, ints, w p i, column_range w ps i)
 
-  pub totals-range : ((p : P) (i : ℕ) → InRange (coordinate (numbers p) i)) → (ps : List P) (i : ℕ) → Summed (length ps) (coordinate (totals width (map numbers ps)) i)
-  totals-range w ps i =
+  pub totals_range : ((p : P) (i : ℕ) → InRange (coordinate (numbers p) i)) → (ps : List P) (i : ℕ) → Summed (length ps) (coordinate (totals width (map numbers ps)) i)
+  totals_range w ps i =
       let T = totals width (map numbers ps) in
       ⊎_elim
-      (λ l. subst (Summed (length ps)) (sym (totals_at width (map numbers ps) i l)) (column-range w ps i))
+      (λ l. subst (Summed (length ps)) (sym (totals_at width (map numbers ps) i l)) (column_range w ps i))
       (λ l. subst (Summed (length ps)) (sym (get_or_past T i (pos 0) (rw (totals_long width (map numbers ps)) l))) (omega arith))
       (cases_lt i width)
 
-  column-least : (i : ℕ) (lo hi : ℤ) (ps : List P) → Each (Between lo hi i) (map numbers ps) → (pos (length ps) *ℤ lo) ≤ℤ total (map (λ p. coordinate p i) (map numbers ps))
-  column-least i lo hi [] b = omega (arith, ints, times_is 0 lo)
-  column-least i lo hi (p ∷ ps) b = omega (arith, ints, b.0.0, column-least i lo hi ps b.1, times_more (length ps) lo)
+  column_least : (i : ℕ) (lo hi : ℤ) (ps : List P) → Each (Between lo hi i) (map numbers ps) → (pos (length ps) *ℤ lo) ≤ℤ total (map (λ p. coordinate p i) (map numbers ps))
+  column_least i lo hi [] b = omega (arith, ints, times_is 0 lo)
+  column_least i lo hi (p ∷ ps) b = omega (arith, ints, b.0.0, column_least i lo hi ps b.1, times_more (length ps) lo)
 
-  column-most : (i : ℕ) (lo hi : ℤ) (ps : List P) → Each (Between lo hi i) (map numbers ps) → total (map (λ p. coordinate p i) (map numbers ps)) ≤ℤ (pos (length ps) *ℤ hi)
-  column-most i lo hi [] b = omega (arith, ints, times_is 0 hi)
-  column-most i lo hi (p ∷ ps) b = omega (arith, ints, b.0.1, column-most i lo hi ps b.1, times_more (length ps) hi)
+  column_most : (i : ℕ) (lo hi : ℤ) (ps : List P) → Each (Between lo hi i) (map numbers ps) → total (map (λ p. coordinate p i) (map numbers ps)) ≤ℤ (pos (length ps) *ℤ hi)
+  column_most i lo hi [] b = omega (arith, ints, times_is 0 hi)
+  column_most i lo hi (p ∷ ps) b = omega (arith, ints, b.0.1, column_most i lo hi ps b.1, times_more (length ps) hi)
 
   -- a total lies between as many times the bounds as there are points
-  pub totals-between : (i : ℕ) → i < width → (lo hi : ℤ) (ps : List P) → Each (Between lo hi i) (map numbers ps)
+  pub totals_between : (i : ℕ) → i < width → (lo hi : ℤ) (ps : List P) → Each (Between lo hi i) (map numbers ps)
       → ((pos (length ps) *ℤ lo) ≤ℤ coordinate (totals width (map numbers ps)) i) × (coordinate (totals width (map numbers ps)) i ≤ℤ (pos (length ps) *ℤ hi))
-  totals-between i l lo hi ps b =
+  totals_between i l lo hi ps b =
       let e = sym (totals_at width (map numbers ps) i l) in (
-        subst (λ (z : ℤ). (pos (length ps) *ℤ lo) ≤ℤ z) e (column-least i lo hi ps b),
-        subst (λ (z : ℤ). z ≤ℤ (pos (length ps) *ℤ hi)) e (column-most i lo hi ps b),
+        subst (λ (z : ℤ). (pos (length ps) *ℤ lo) ≤ℤ z) e (column_least i lo hi ps b),
+        subst (λ (z : ℤ). z ≤ℤ (pos (length ps) *ℤ hi)) e (column_most i lo hi ps b),
       )

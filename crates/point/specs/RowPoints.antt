@@ -17,8 +17,8 @@ use Rattle.point.specs.Checked.{no_fault}
 use Rattle.point.specs.Dealing.{handle_count, row_whole, floor_of, gets, dealt, missing, Shares}
 use Rattle.point.specs.Rows.{numbers_of, sums_of, first, fitted, fitted_long, row_by, row_at, mean_by}
 use Rattle.point.specs.MadeLemmas.{range_none, total_none, row_fault_lem}
-use Rattle.point.specs.Listed.{coordinates_are, totals_long, totals-total, totals-range, totals-between}
-use Rattle.point.specs.Deals.{dealt_long, dealt_at, dealt_whole, dealt_shares, weight-near, weight-least, weight-most, weight_range}
+use Rattle.point.specs.Listed.{coordinates_are, totals_long, totals_total, totals_range, totals_between}
+use Rattle.point.specs.Deals.{dealt_long, dealt_at, dealt_whole, dealt_shares, weight_near, weight_least, weight_most, weight_range}
 
 pub row_same : (p q : PullRow) → p.weights ≡ q.weights → p ≡ q
 row_same p q e j = record {
@@ -59,31 +59,31 @@ module _ (k : ℕ) (ts : List ℤ) (h : 0 < k) (l : length ts ≡ handle_count) 
   abbrev pub ws : List ℤ
   ws = dealt k (missing k ts) ts
 
-  pub ws-long : length ws ≡ handle_count
-  ws-long = dealt_long k (missing k ts) ts ∙ l
+  pub ws_long : length ws ≡ handle_count
+  ws_long = dealt_long k (missing k ts) ts ∙ l
 
-  pub ws-in-range : (i : ℕ) → InRange (coordinate ws i)
-  ws-in-range i =
+  pub ws_in_range : (i : ℕ) → InRange (coordinate ws i)
+  ws_in_range i =
       ⊎_elim
       (λ f. let d = dealt_at k (missing k ts) ts i f in subst InRange (sym d.1) (weight_range k h d.0 (coordinate ts i) (s i)))
       (λ f. subst InRange (sym (get_or_past ws i (pos 0) (rw (dealt_long k (missing k ts) ts) f))) (lit≤ tt))
       (cases_lt i (length ts))
 
   -- the row of the dealt weights
-  abbrev dealt-row : PullRow
-  dealt-row = record { weights = ws; long = ws-long; ok = ws-in-range; whole = dealt_whole k ts h e }
+  abbrev dealt_row : PullRow
+  dealt_row = record { weights = ws; long = ws_long; ok = ws_in_range; whole = dealt_whole k ts h e }
 
-  pub mean-numbers : numbers_of (mean_by k ts) ≡ dealt k (missing k ts) ts
-  mean-numbers = ap numbers_of (sym (row_at_lem dealt-row ws refl))
+  pub mean_numbers : numbers_of (mean_by k ts) ≡ dealt k (missing k ts) ts
+  mean_numbers = ap numbers_of (sym (row_at_lem dealt_row ws refl))
 
-  pub mean-shares : Shares k ts (numbers_of (mean_by k ts))
-  mean-shares = subst (Shares k ts) (sym mean-numbers) (dealt_shares k ts h e)
+  pub mean_shares : Shares k ts (numbers_of (mean_by k ts))
+  mean_shares = subst (Shares k ts) (sym mean_numbers) (dealt_shares k ts h e)
 
   -- a fact of each weight of the mean, whatever was missing when its turn came
-  pub mean-each : (P : ℤ → Type 0) (i : ℕ) → i < handle_count → ((m : ℕ) → P (floor_of k (coordinate ts i) +ℤ pos (gets k m (coordinate ts i)))) → P (coordinate (numbers_of (mean_by k ts)) i)
-  mean-each P i f w =
+  pub mean_each : (P : ℤ → Type 0) (i : ℕ) → i < handle_count → ((m : ℕ) → P (floor_of k (coordinate ts i) +ℤ pos (gets k m (coordinate ts i)))) → P (coordinate (numbers_of (mean_by k ts)) i)
+  mean_each P i f w =
       let d = dealt_at k (missing k ts) ts i (rw l f) in
-      subst P (sym (ap (λ (zs : List ℤ). coordinate zs i) mean-numbers ∙ d.1)) (w d.0)
+      subst P (sym (ap (λ (zs : List ℤ). coordinate zs i) mean_numbers ∙ d.1)) (w d.0)
 
 pub mean_made : (s : PullSum) (p : PullRow) → 0 < s.count → p.weights ≡ dealt s.count (missing s.count s.totals) s.totals → Some p ≡ mean_answer mean_by s.count (sums_of s)
 mean_made s p h e = ap Some (row_at_lem p _ e) ∙ sym (cond-false (s.count == 0) None (Some (mean_by s.count (sums_of s))) (ne_eqb s.count 0 (λ z. omega arith)))
@@ -91,7 +91,7 @@ mean_made s p h e = ap Some (row_at_lem p _ e) ∙ sym (cond-false (s.count == 0
 pub answer_shares : (s : PullSum) (p : PullRow) → 0 < s.count → mean_answer mean_by s.count (sums_of s) ≡ Some p → Shares s.count (sums_of s) (numbers_of p)
 answer_shares s p h e =
     let m : mean_by s.count (sums_of s) ≡ p = cc (cond-false (s.count == 0) None (Some (mean_by s.count (sums_of s))) (ne_eqb s.count 0 (λ z. omega arith)), e) in
-    subst (λ (q : PullRow). Shares s.count (sums_of s) (numbers_of q)) m (mean-shares s.count s.totals h s.long s.ok s.whole)
+    subst (λ (q : PullRow). Shares s.count (sums_of s) (numbers_of q)) m (mean_shares s.count s.totals h s.long s.ok s.whole)
 
 -- ---- the laws
 within : (p : PullRow) (i : ℕ) → InRange (coordinate (numbers_of p) i)
@@ -102,7 +102,7 @@ module _ (ps : List PullRow) (h : 1 ≤ length ps) where
   ts = totals handle_count (map numbers_of ps)
 
   each : (P : ℤ → Type 0) (i : ℕ) → i < handle_count → ((m : ℕ) → P (floor_of (length ps) (coordinate ts i) +ℤ pos (gets (length ps) m (coordinate ts i)))) → P (coordinate (numbers_of (mean_by (length ps) ts)) i)
-  each = mean-each (length ps) ts h (totals_long handle_count (map numbers_of ps)) (totals-range handle_count numbers_of within ps) (totals-total handle_count numbers_of row_whole (λ p. p.long) (λ p. p.whole) ps)
+  each = mean_each (length ps) ts h (totals_long handle_count (map numbers_of ps)) (totals_range handle_count numbers_of within ps) (totals_total handle_count numbers_of row_whole (λ p. p.long) (λ p. p.whole) ps)
 
 pub row_laws : KindLaws handle_count 2 numbers_of mean_by
 row_laws = record {
@@ -112,12 +112,12 @@ row_laws = record {
   sized = λ p. p.long;
   within = within;
   same = row_same;
-  near = λ ps h f i l. each ps h (λ m. Near 2 (length ps) m (coordinate (ts ps h) i)) i l (λ m. weight-near (length ps) h m (coordinate (ts ps h) i));
+  near = λ ps h f i l. each ps h (λ m. Near 2 (length ps) m (coordinate (ts ps h) i)) i l (λ m. weight_near (length ps) h m (coordinate (ts ps h) i));
   inside = λ ps h f i l lo hi b.
       let k = length ps in
       let t = coordinate (ts ps h) i in
-      let bounds = totals-between handle_count numbers_of i l lo hi ps b in (
-        each ps h (λ m. lo ≤ℤ m) i l (λ m. weight-least k h m t lo bounds.0),
-        each ps h (λ m. m ≤ℤ hi) i l (λ m. weight-most k h m t hi bounds.1),
+      let bounds = totals_between handle_count numbers_of i l lo hi ps b in (
+        each ps h (λ m. lo ≤ℤ m) i l (λ m. weight_least k h m t lo bounds.0),
+        each ps h (λ m. m ≤ℤ hi) i l (λ m. weight_most k h m t hi bounds.1),
       );
 }

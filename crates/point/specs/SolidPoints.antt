@@ -13,8 +13,8 @@ use Rattle.point.specs.Made.{range_fault}
 use Rattle.point.specs.Checked.{no_fault}
 use Rattle.point.specs.Solids.{three, numbers_of, sums_of, origin, point_by, point_at, half_up, mean_by, Nearest, NearestEach}
 use Rattle.point.specs.MadeLemmas.{range_none}
-use Rattle.point.specs.Listed.{totals-range, totals-between}
-use Rattle.point.specs.Rounding.{half-nearest, half-least, half-most, half-range}
+use Rattle.point.specs.Listed.{totals_range, totals_between}
+use Rattle.point.specs.Rounding.{half_nearest, half_least, half_most, half_range}
 
 pub solid_same : (p q : SolidPoint) → p.x ≡ q.x → p.y ≡ q.y → p.z ≡ q.z → p ≡ q
 solid_same p q a b c j = record {
@@ -65,10 +65,10 @@ module _ (k : ℕ) (ts : List ℤ) (h : 0 < k) (s : (i : ℕ) → Summed k (coor
   at i = half_up k (coordinate ts i)
 
   abbrev made : SolidPoint
-  made = record { x = at 0; y = at 1; z = at 2; ok = (half-range k h (coordinate ts 0) (s 0), half-range k h (coordinate ts 1) (s 1), half-range k h (coordinate ts 2) (s 2)) }
+  made = record { x = at 0; y = at 1; z = at 2; ok = (half_range k h (coordinate ts 0) (s 0), half_range k h (coordinate ts 1) (s 1), half_range k h (coordinate ts 2) (s 2)) }
 
-  pub mean-at : (i : ℕ) → i < 3 → coordinate (numbers_of (mean_by k ts)) i ≡ half_up k (coordinate ts i)
-  mean-at i l = sym (ap (λ p. coordinate (numbers_of p) i) (point_at_lem made refl)) ∙ each i l
+  pub mean_at : (i : ℕ) → i < 3 → coordinate (numbers_of (mean_by k ts)) i ≡ half_up k (coordinate ts i)
+  mean_at i l = sym (ap (λ p. coordinate (numbers_of p) i) (point_at_lem made refl)) ∙ each i l
     where
       each : (i : ℕ) → i < 3 → coordinate (numbers_of made) i ≡ at i
       each zero l = refl
@@ -76,8 +76,8 @@ module _ (k : ℕ) (ts : List ℤ) (h : 0 < k) (s : (i : ℕ) → Summed k (coor
       each (suc (suc zero)) l = refl
       each (suc (suc (suc i))) l = absurd (omega arith)
 
-  pub mean-nearest : NearestEach k ts (mean_by k ts)
-  mean-nearest i l = subst (Nearest k (coordinate ts i)) (sym (mean-at i l)) (half-nearest k h (coordinate ts i))
+  pub mean_nearest : NearestEach k ts (mean_by k ts)
+  mean_nearest i l = subst (Nearest k (coordinate ts i)) (sym (mean_at i l)) (half_nearest k h (coordinate ts i))
 
 sum_within : (s : SolidSum) (i : ℕ) → Summed s.count (coordinate (sums_of s) i)
 sum_within s zero = s.ok.0
@@ -91,7 +91,7 @@ mean_made s p h e = ap Some (point_at_lem p e) ∙ sym (cond-false (s.count == 0
 pub answer_nearest : (s : SolidSum) (p : SolidPoint) → 0 < s.count → mean_answer mean_by s.count (sums_of s) ≡ Some p → NearestEach s.count (sums_of s) p
 answer_nearest s p h e =
     let m : mean_by s.count (sums_of s) ≡ p = cc (cond-false (s.count == 0) None (Some (mean_by s.count (sums_of s))) (ne_eqb s.count 0 (λ z. omega arith)), e) in
-    subst (NearestEach s.count (sums_of s)) m (mean-nearest s.count (sums_of s) h (sum_within s))
+    subst (NearestEach s.count (sums_of s)) m (mean_nearest s.count (sums_of s) h (sum_within s))
 
 -- ---- the laws
 pub solid_laws : KindLaws 3 1 numbers_of mean_by
@@ -102,12 +102,12 @@ solid_laws = record {
   sized = λ p. refl;
   within = within;
   same = λ p q e. solid_same p q (ap (λ (zs : List ℤ). coordinate zs 0) e) (ap (λ (zs : List ℤ). coordinate zs 1) e) (ap (λ (zs : List ℤ). coordinate zs 2) e);
-  near = λ ps h f i l. (mean-nearest (length ps) (totals 3 (map numbers_of ps)) h (totals-range 3 numbers_of within ps) i l).near;
+  near = λ ps h f i l. (mean_nearest (length ps) (totals 3 (map numbers_of ps)) h (totals_range 3 numbers_of within ps) i l).near;
   inside = λ ps h f i l lo hi b.
       let k = length ps in
       let ts = totals 3 (map numbers_of ps) in
       let t = coordinate ts i in
-      let e = sym (mean-at k ts h (totals-range 3 numbers_of within ps) i l) in
-      let bounds = totals-between 3 numbers_of i l lo hi ps b in
-      (subst (λ (m : ℤ). lo ≤ℤ m) e (half-least k h t lo bounds.0), subst (λ (m : ℤ). m ≤ℤ hi) e (half-most k h t hi bounds.1));
+      let e = sym (mean_at k ts h (totals_range 3 numbers_of within ps) i l) in
+      let bounds = totals_between 3 numbers_of i l lo hi ps b in
+      (subst (λ (m : ℤ). lo ≤ℤ m) e (half_least k h t lo bounds.0), subst (λ (m : ℤ). m ≤ℤ hi) e (half_most k h t hi bounds.1));
 }

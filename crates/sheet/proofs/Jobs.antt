@@ -13,7 +13,7 @@ use Rattle.sheet.proofs.Forms.{judge_after, never, ok_is}
 use Rattle.sheet.proofs.Complete.{parted_sheet, parted_after, run_job}
 use Rattle.sheet.proofs.Spellings.{two, said, retold, sheet_only, sheet_every}
 use Rattle.sheet.proofs.Places.{err_is, Fillable, Last, fillable_retold}
-use Rattle.sheet.proofs.Texts.{accepted, taken, one-text, past-limit, off-form}
+use Rattle.sheet.proofs.Texts.{accepted, taken, one_text, past_limit, off_form}
 use Rattle.sheet.proofs.Readings.{after_ok, sheet_ends, fillable_sheet, stored_ok, stored_short}
 
 abbrev of_job : ℕ → ℕ → Sheet → Job
@@ -61,9 +61,9 @@ law : (text : List ℕ) (t : Tables) → JobLaw text t (read_job text t).0 (read
 law text t = record {
   only = λ n e. go (judge job text 0) refl n e;
   every = λ j r e. ap (λ x. settled_job x t) (taken job job_text JobRanged job_only job_every parted_job fillable_job job_ends text 0 j r e);
-  one = one-text job job_text JobRanged job_only job_every parted_job fillable_job job_ends;
-  limit = λ p e. past-limit job job_text JobRanged job_only job_every parted_job fillable_job job_ends text 0 p (declines (judge job text 0) (fault.Limit p) (λ n z. let y : ◌≡◌ {A = ℕ} 0 1 = cc z in absurd (omega arith)) e);
-  form = λ p e. off-form job job_text JobRanged job_only job_every parted_job fillable_job job_ends text 0 p (declines (judge job text 0) (fault.Form p) (λ n z. let y : ◌≡◌ {A = ℕ} 0 1 = cc z in absurd (omega arith)) e);
+  one = one_text job job_text JobRanged job_only job_every parted_job fillable_job job_ends;
+  limit = λ p e. past_limit job job_text JobRanged job_only job_every parted_job fillable_job job_ends text 0 p (declines (judge job text 0) (fault.Limit p) (λ n z. let y : ◌≡◌ {A = ℕ} 0 1 = cc z in absurd (omega arith)) e);
+  form = λ p e. off_form job job_text JobRanged job_only job_every parted_job fillable_job job_ends text 0 p (declines (judge job text 0) (fault.Form p) (λ n z. let y : ◌≡◌ {A = ℕ} 0 1 = cc z in absurd (omega arith)) e);
 }
   where
     go : (x : Result (Job × ℕ) TextFault) → judge job text 0 ≡ x → (n : JobSizes) → (settled_job x t).0 ≡ Ok n → (j : Job) × JobRanged j × (text ≡ job_text j) × (n ≡ job_sizes j.degree j.levels (sizes j.of)) × ((settled_job x t).1 ≡ holding j.of t)
@@ -107,5 +107,5 @@ module _ (text : List ℕ) (t : Tables) (d l at : ℕ) (j : judge job_line text 
       go (Ok s) = refl
       go (Err e) = refl
 
-  pub read-job : (r : Result JobSizes TextFault) → r ≡ headed d l n → ReadsJob text t r u
-  read-job r e = told text t r u ((λ i. ((e ∙ ap (λ x. headed d l x.0) o.outcome) i, (o.outcome i).1)) ∙ sym all)
+  pub read_job : (r : Result JobSizes TextFault) → r ≡ headed d l n → ReadsJob text t r u
+  read_job r e = told text t r u ((λ i. ((e ∙ ap (λ x. headed d l x.0) o.outcome) i, (o.outcome i).1)) ∙ sym all)

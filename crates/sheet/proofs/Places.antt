@@ -182,8 +182,8 @@ clear_alike text (b ∷ bs) rest r q c e h = subst Clear e c
 
 -- the token itself is wrong
 module _ {A : Type 0} (f : Form A) (text : List ℕ) (p : ℕ) (c : Fillable f) (h : (a : A) (rest : List ℕ) → Spelled f a rest → front rest ≡ front (drop p text) → ⊥) where
-  at-form : (e : TextFault) → e ≡ fault.Form p → ((a : A) (rest : List ℕ) → Spelled f a rest → Alike (front rest) (front (drop p text)) → ⊥) → Wrong f text p e
-  at-form e q n = subst (λ x. Wrong f text p x) (sym q) (record {
+  at_form : (e : TextFault) → e ≡ fault.Form p → ((a : A) (rest : List ℕ) → Spelled f a rest → Alike (front rest) (front (drop p text)) → ⊥) → Wrong f text p e
+  at_form e q n = subst (λ x. Wrong f text p x) (sym q) (record {
     before = [];
     cut = refl;
     far = sym (add-zero p);
@@ -192,8 +192,8 @@ module _ {A : Type 0} (f : Form A) (text : List ℕ) (p : ℕ) (c : Fillable f) 
     sort = n;
   })
 
-  at-limit : (e : TextFault) → e ≡ fault.Limit p → (a : A) (rest : List ℕ) → Spelled f a rest → Alike (front rest) (front (drop p text)) → Wrong f text p e
-  at-limit e q a rest s n = subst (λ x. Wrong f text p x) (sym q) (record {
+  at_limit : (e : TextFault) → e ≡ fault.Limit p → (a : A) (rest : List ℕ) → Spelled f a rest → Alike (front rest) (front (drop p text)) → Wrong f text p e
+  at_limit e q a rest s n = subst (λ x. Wrong f text p x) (sym q) (record {
     before = [];
     cut = refl;
     far = sym (add-zero p);
@@ -304,24 +304,24 @@ coordinate_taken text p z i e =
     ∙ ap (λ x. then x (placed (p + length (signed_decimal z)))) ((number_law p).0.complete z i)
 
 module _ {A : Type 0} (text : List ℕ) (p : ℕ) (e : TextFault) where
-  token-case : (w : List ℕ) (f : Form A) → Parted (token w f) → Fillable (token w f) → (x : Result ℕ TextFault) → token_at w text p ≡ x → then x (λ r. judge f text r) ≡ Err e → ((r : ℕ) → judge f text r ≡ Err e → Wrong f text r e) → Wrong (token w f) text p e
+  token_case : (w : List ℕ) (f : Form A) → Parted (token w f) → Fillable (token w f) → (x : Result ℕ TextFault) → token_at w text p ≡ x → then x (λ r. judge f text r) ≡ Err e → ((r : ℕ) → judge f text r ≡ Err e → Wrong f text r e) → Wrong (token w f) text p e
   unfolding Fillable
-  token-case w f c v (Ok r) t h ih =
+  token_case w f c v (Ok r) t h ih =
       let s = token_sound w text p r t in
       further (token w f) f text w p r (λ a zs z. s_token z)
       (λ a zs z _. let i = token_inv z in subst (λ x. Spelled f a x) (append_cancel_left w i.0 zs (sym i.1)) i.2)
       e s.0 s.1 (ih r h)
-  token-case w f c v (Err y) t h ih =
+  token_case w f c v (Err y) t h ih =
       let o = token_err w text p y t in
       let fr : (a : A) (rest : List ℕ) → Spelled (token w f) a rest → front rest ≡ w =
       λ a rest s.
       let i = token_inv s in
       ap front i.1 ∙ ⊎_elim (front_mark w i.0) (λ r. front_run_is w i.0 r.0 (breaks_clear i.2 r.1)) c.0 in
-      at-form (token w f) text p v (λ a rest s g. o.1 (sym g ∙ fr a rest s)) e (sym (err_is _ _ h) ∙ o.0)
+      at_form (token w f) text p v (λ a rest s g. o.1 (sym g ∙ fr a rest s)) e (sym (err_is _ _ h) ∙ o.0)
       (λ a rest s g. alike_not w (front (drop p text)) v.0 (subst (λ x. Alike x (front (drop p text))) (fr a rest s) g))
 
-  natural-case : (low high : ℕ) (k : ℕ → Form A) → Parted (natural low high k) → Fillable (natural low high k) → (x : Result (ℕ × ℕ) TextFault) → natural_at low high text p ≡ x → then x (λ r. judge (k r.0) text r.1) ≡ Err e → ((n r : ℕ) → judge (k n) text r ≡ Err e → Wrong (k n) text r e) → Wrong (natural low high k) text p e
-  natural-case low high k c v (Ok r) t h ih =
+  natural_case : (low high : ℕ) (k : ℕ → Form A) → Parted (natural low high k) → Fillable (natural low high k) → (x : Result (ℕ × ℕ) TextFault) → natural_at low high text p ≡ x → then x (λ r. judge (k r.0) text r.1) ≡ Err e → ((n r : ℕ) → judge (k n) text r ≡ Err e → Wrong (k n) text r e) → Wrong (natural low high k) text p e
+  natural_case low high k c v (Ok r) t h ih =
       let n = r.0 in
       let s = placed_sound (p + length (front (drop p text))) (natural_of low high p (front (drop p text))) n r.1 t in
       let l = ((number_law p).1 low high c.0).sound (front (drop p text)) n s.0 in
@@ -338,7 +338,7 @@ module _ {A : Type 0} (text : List ℕ) (p : ℕ) (e : TextFault) where
       let bz : i.1 ≡ zs = append_cancel_left (decimal n) i.1 zs (ap (λ x. x ++ i.1) (sym same) ∙ sym i.4) in
       subst (λ x. Spelled (k n) a x) bz (subst (λ x. Spelled (k x) a i.1) mn i.5))
       e l.0 m (ih n r.1 h)
-  natural-case low high k c v (Err y) t h ih =
+  natural_case low high k c v (Err y) t h ih =
       let token = front (drop p text) in
       let fr : (a : A) (rest : List ℕ) → Spelled (natural low high k) a rest → (m : ℕ) × (front rest ≡ decimal m) × (low ≤ m) × (m ≤ high) =
       λ a rest s.
@@ -348,7 +348,7 @@ module _ {A : Type 0} (text : List ℕ) (p : ℕ) (e : TextFault) where
       λ a rest s g. let m = fr a rest s in never _ _ (sym t ∙ natural_taken low high c.0 text p m.0 m.2 m.3 (sym g ∙ m.1)) in
       let q = sym (err_is _ _ h) in
       ⊎_elim
-      (λ o. at-form (natural low high k) text p v wrong e (q ∙ o.1)
+      (λ o. at_form (natural low high k) text p v wrong e (q ∙ o.1)
       (λ a rest s g.
       let m = fr a rest s in
       let im = ap number.integer m.1 ∙ integer_decimal m.0 (omega (arith, c.0, m.3)) in
@@ -358,12 +358,12 @@ module _ {A : Type 0} (text : List ℕ) (p : ℕ) (e : TextFault) where
       let m = fr w.0 w.1 w.2 in
       let im = ap number.integer m.1 ∙ integer_decimal m.0 (omega (arith, c.0, m.3)) in
       let it = integer_natural token o.0 o.1 in
-      at-limit (natural low high k) text p v wrong e (q ∙ o.2) w.0 w.1 w.2 (alike_by (front w.1) token (pos m.0) (pos o.0) im it tt))
+      at_limit (natural low high k) text p v wrong e (q ∙ o.2) w.0 w.1 w.2 (alike_by (front w.1) token (pos m.0) (pos o.0) im it tt))
       (limited_err low high p (number.natural token) y (placed_err (p + length token) (natural_of low high p token) y t))
 
-  coordinate-case : (k : ℤ → Form A) → Parted (coordinate k) → Fillable (coordinate k) → (x : Result (ℤ × ℕ) TextFault) → coordinate_at text p ≡ x → then x (λ r. judge (k r.0) text r.1) ≡ Err e → ((n : ℤ) (r : ℕ) → judge (k n) text r ≡ Err e → Wrong (k n) text r e) → Wrong (coordinate k) text p e
+  coordinate_case : (k : ℤ → Form A) → Parted (coordinate k) → Fillable (coordinate k) → (x : Result (ℤ × ℕ) TextFault) → coordinate_at text p ≡ x → then x (λ r. judge (k r.0) text r.1) ≡ Err e → ((n : ℤ) (r : ℕ) → judge (k n) text r ≡ Err e → Wrong (k n) text r e) → Wrong (coordinate k) text p e
   unfolding Fillable
-  coordinate-case k c v (Ok r) t h ih =
+  coordinate_case k c v (Ok r) t h ih =
       let n = r.0 in
       let s = placed_sound (p + length (front (drop p text))) (coordinate_of p (front (drop p text))) n r.1 t in
       let l = (number_law p).0.sound (front (drop p text)) n s.0 in
@@ -380,7 +380,7 @@ module _ {A : Type 0} (text : List ℕ) (p : ℕ) (e : TextFault) where
       let bz : i.1 ≡ zs = append_cancel_left (signed_decimal n) i.1 zs (ap (λ x. x ++ i.1) (sym same) ∙ sym i.3) in
       subst (λ x. Spelled (k n) a x) bz (subst (λ x. Spelled (k x) a i.1) mn i.4))
       e l.0 m (ih n r.1 h)
-  coordinate-case k c v (Err y) t h ih =
+  coordinate_case k c v (Err y) t h ih =
       let token = front (drop p text) in
       let wrong : (a : A) (rest : List ℕ) → Spelled (coordinate k) a rest → front rest ≡ token → ⊥ =
       λ a rest s g.
@@ -389,20 +389,20 @@ module _ {A : Type 0} (text : List ℕ) (p : ℕ) (e : TextFault) where
       never _ _ (sym t ∙ coordinate_taken text p i.0 i.2 (sym g ∙ ap front i.3 ∙ fm)) in
       let q = sym (err_is _ _ h) in
       ⊎_elim
-      (λ o. at-form (coordinate k) text p v wrong e (q ∙ o.1) (λ a rest s g. not_alike (front rest) token o.0 g))
+      (λ o. at_form (coordinate k) text p v wrong e (q ∙ o.1) (λ a rest s g. not_alike (front rest) token o.0 g))
       (λ o.
       let z = like o.0 in
       let w = filled (k z.0) (v z.0) in
       let fm : front (signed_decimal z.0 ++ w.1) ≡ signed_decimal z.0 = front_run_is (signed_decimal z.0) w.1 (run_signed z.0 z.1) (breaks_clear w.2 (c z.0).0) in
       let im = ap number.integer fm ∙ integer_of z.0 z.1 in
-      at-limit (coordinate k) text p v wrong e (q ∙ o.2) w.0 (signed_decimal z.0 ++ w.1) (s_coordinate z.0 z.1 w.2) (alike_by (front (signed_decimal z.0 ++ w.1)) token z.0 o.0 im o.1 z.2))
+      at_limit (coordinate k) text p v wrong e (q ∙ o.2) w.0 (signed_decimal z.0 ++ w.1) (s_coordinate z.0 z.1 w.2) (alike_by (front (signed_decimal z.0 ++ w.1)) token z.0 o.0 im o.1 z.2))
       (bounded_err p (number.integer token) y (placed_err (p + length token) (coordinate_of p token) y t))
 
-  end-case : (a : A) → (t : Bool) → leb (length text) p ≡ t → then (cond t (Ok p) (Err (fault.Form p))) (λ q. judge (gives a) text q) ≡ Err e → Wrong (end (gives a)) text p e
+  end_case : (a : A) → (t : Bool) → leb (length text) p ≡ t → then (cond t (Ok p) (Err (fault.Form p))) (λ q. judge (gives a) text q) ≡ Err e → Wrong (end (gives a)) text p e
   unfolding Fillable Last
-  end-case a true t h = absurd (never _ _ (sym h))
-  end-case a false t h =
-      at-form (end (gives a)) text p tt (λ b rest s g. ends (drop p text) refl (sym g ∙ ap front (end_inv s))) e (sym (err_is _ _ h))
+  end_case a true t h = absurd (never _ _ (sym h))
+  end_case a false t h =
+      at_form (end (gives a)) text p tt (λ b rest s g. ends (drop p text) refl (sym g ∙ ap front (end_inv s))) e (sym (err_is _ _ h))
       (λ b rest s g. alike_not [] (front (drop p text)) refl (subst (λ x. Alike (front x) (front (drop p text))) (end_inv s) g))
     where
       ends : (bs : List ℕ) → drop p text ≡ bs → front bs ≡ [] → ⊥
@@ -415,10 +415,10 @@ module _ {A : Type 0} (text : List ℕ) (p : ℕ) (e : TextFault) where
 pub first_wrong : {A : Type 0} (f : Form A) → Parted f → Fillable f → (text : List ℕ) (p : ℕ) (e : TextFault) → judge f text p ≡ Err e → Wrong f text p e
 unfolding Fillable Last
 first_wrong (gives a) c v text p e h = absurd (never _ _ (sym h))
-first_wrong (token w f) c v text p e h = token-case text p e w f c v (token_at w text p) refl h (λ r g. first_wrong f c.1 v.1 text r e g)
-first_wrong (natural low high k) c v text p e h = natural-case text p e low high k c v (natural_at low high text p) refl h (λ n r g. first_wrong (k n) (c.1 n).1 (v.1 n) text r e g)
-first_wrong (coordinate k) c v text p e h = coordinate-case text p e k c v (coordinate_at text p) refl h (λ z r g. first_wrong (k z) (c z).1 (v z) text r e g)
-first_wrong (end (gives a)) c v text p e h = end-case text p e a (leb (length text) p) refl h
+first_wrong (token w f) c v text p e h = token_case text p e w f c v (token_at w text p) refl h (λ r g. first_wrong f c.1 v.1 text r e g)
+first_wrong (natural low high k) c v text p e h = natural_case text p e low high k c v (natural_at low high text p) refl h (λ n r g. first_wrong (k n) (c.1 n).1 (v.1 n) text r e g)
+first_wrong (coordinate k) c v text p e h = coordinate_case text p e k c v (coordinate_at text p) refl h (λ z r g. first_wrong (k z) (c z).1 (v z) text r e g)
+first_wrong (end (gives a)) c v text p e h = end_case text p e a (leb (length text) p) refl h
 first_wrong (end (token w f)) c v text p e h = absurd v
 first_wrong (end (natural low high k)) c v text p e h = absurd v
 first_wrong (end (coordinate k)) c v text p e h = absurd v

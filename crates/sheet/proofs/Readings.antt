@@ -17,7 +17,7 @@ use Rattle.sheet.proofs.Sound.{end_sound}
 use Rattle.sheet.proofs.Complete.{parted_sheet}
 use Rattle.sheet.proofs.Spellings.{sheet_only, sheet_every, Endless, endless_times, point_writes, corner_writes, face_writes}
 use Rattle.sheet.proofs.Places.{err_is, Last, Fillable, fillable_after, fillable_times}
-use Rattle.sheet.proofs.Texts.{accepted, taken, one-text, past-limit, off-form}
+use Rattle.sheet.proofs.Texts.{accepted, taken, one_text, past_limit, off_form}
 
 -- a form that was accepted after another was accepted where that ends
 pub after_ok : {A B : Type 0} (f : Form A) (k : A → Form B) (text : List ℕ) (p : ℕ) (b : B) (q : ℕ) → judge (after f k) text p ≡ Ok (b, q) → (a : A) × (r : ℕ) × (judge (k a) text r ≡ Ok (b, q))
@@ -91,7 +91,7 @@ fillable_sheet = (
               omega arith,
               λ m. (
                 refl,
-                fillable_after (times m face_line) (closed ps) (endless_times m face_line face_writes.endless) (fillable_times m face_line face_writes.endless fillable-face) (λ fs. (refl, (refl, tt))),
+                fillable_after (times m face_line) (closed ps) (endless_times m face_line face_writes.endless) (fillable_times m face_line face_writes.endless fillable_face) (λ fs. (refl, (refl, tt))),
               ),
             ),
           ),
@@ -101,16 +101,16 @@ fillable_sheet = (
   ),
 )
   where
-    fillable-face : Fillable face_line
-    fillable-face = (omega arith, λ k. fillable_after (times k corner) (λ vs. token line_end (gives vs)) (endless_times k corner corner_writes.endless) (fillable_times k corner corner_writes.endless (refl, (omega arith, λ v. tt))) (λ vs. (refl, tt)))
+    fillable_face : Fillable face_line
+    fillable_face = (omega arith, λ k. fillable_after (times k corner) (λ vs. token line_end (gives vs)) (endless_times k corner corner_writes.endless) (fillable_times k corner corner_writes.endless (refl, (omega arith, λ v. tt))) (λ vs. (refl, tt)))
 
 law : (text : List ℕ) (at : ℕ) (t : Tables) → SheetLaw text at t (read text at t).0 (read text at t).1
 law text at t = record {
   only = λ n e. go (judge sheet text at) refl n e;
   every = λ s r e. ap (λ x. settled x t) (taken sheet sheet_text Ranged (λ s bs t. sheet_only t) sheet_every parted_sheet fillable_sheet sheet_ends text at s r e);
-  one = one-text sheet sheet_text Ranged (λ s bs t. sheet_only t) sheet_every parted_sheet fillable_sheet sheet_ends;
-  limit = λ p e. past-limit sheet sheet_text Ranged (λ s bs t. sheet_only t) sheet_every parted_sheet fillable_sheet sheet_ends text at p (declines (judge sheet text at) (fault.Limit p) (λ n z. let y : ◌≡◌ {A = ℕ} 0 1 = cc z in absurd (omega arith)) e);
-  form = λ p e. off-form sheet sheet_text Ranged (λ s bs t. sheet_only t) sheet_every parted_sheet fillable_sheet sheet_ends text at p (declines (judge sheet text at) (fault.Form p) (λ n z. let y : ◌≡◌ {A = ℕ} 0 1 = cc z in absurd (omega arith)) e);
+  one = one_text sheet sheet_text Ranged (λ s bs t. sheet_only t) sheet_every parted_sheet fillable_sheet sheet_ends;
+  limit = λ p e. past_limit sheet sheet_text Ranged (λ s bs t. sheet_only t) sheet_every parted_sheet fillable_sheet sheet_ends text at p (declines (judge sheet text at) (fault.Limit p) (λ n z. let y : ◌≡◌ {A = ℕ} 0 1 = cc z in absurd (omega arith)) e);
+  form = λ p e. off_form sheet sheet_text Ranged (λ s bs t. sheet_only t) sheet_every parted_sheet fillable_sheet sheet_ends text at p (declines (judge sheet text at) (fault.Form p) (λ n z. let y : ◌≡◌ {A = ℕ} 0 1 = cc z in absurd (omega arith)) e);
 }
   where
     go : (x : Result (Sheet × ℕ) TextFault) → judge sheet text at ≡ x → (n : Sizes) → (settled x t).0 ≡ Ok n → (s : Sheet) × Ranged s × (drop at text ≡ sheet_text s) × (n ≡ sizes s) × ((settled x t).1 ≡ holding s t)
@@ -135,36 +135,36 @@ module _ (text : List ℕ) (at : ℕ) (t : Tables) (l : Layout) (d : Laid text a
   abbrev of : Sheet
   of = record { points = d.ps; faces = d.fs }
 
-  to-stored : read text at t ≡ stored of t
-  to-stored = ap (λ x. settled x t) d.whole
+  to_stored : read text at t ≡ stored of t
+  to_stored = ap (λ x. settled x t) d.whole
 
-  points-is : l.sizes.points ≡ length d.ps
-  points-is = ap (λ z. z.points) d.counts
+  points_is : l.sizes.points ≡ length d.ps
+  points_is = ap (λ z. z.points) d.counts
 
-  faces-is : l.sizes.faces ≡ length d.fs
-  faces-is = ap (λ z. z.faces) d.counts
+  faces_is : l.sizes.faces ≡ length d.fs
+  faces_is = ap (λ z. z.faces) d.counts
 
-  corners-is : l.sizes.corners ≡ corner_count d.fs
-  corners-is = ap (λ z. z.corners) d.counts
+  corners_is : l.sizes.corners ≡ corner_count d.fs
+  corners_is = ap (λ z. z.corners) d.counts
 
   by_tests : (a b c : Bool) → ltb (length t.points) (length d.ps) ≡ a → ltb (length t.lengths) (length d.fs) ≡ b → ltb (length t.corners) (corner_count d.fs) ≡ c → read text at t ≡ pick of t a b c
-  by_tests a b c p q r = to-stored ∙ (λ i. pick of t (p i) (q i) (r i))
+  by_tests a b c p q r = to_stored ∙ (λ i. pick of t (p i) (q i) (r i))
 
-  pub read-short-points : length t.points < l.sizes.points → ReadsSheet text at t (Err (fault.Short l.sizes.points)) t
-  read-short-points h =
-      told text at t _ t (ap (λ n. (Err (fault.Short n), t)) points-is
-      ∙ sym (by_tests true _ _ (lt-ltb (length t.points) (length d.ps) (omega (arith, points-is))) refl refl))
+  pub read_short_points : length t.points < l.sizes.points → ReadsSheet text at t (Err (fault.Short l.sizes.points)) t
+  read_short_points h =
+      told text at t _ t (ap (λ n. (Err (fault.Short n), t)) points_is
+      ∙ sym (by_tests true _ _ (lt-ltb (length t.points) (length d.ps) (omega (arith, points_is))) refl refl))
 
-  pub read-short-lengths : l.sizes.points ≤ length t.points → length t.lengths < l.sizes.faces → ReadsSheet text at t (Err (fault.Short l.sizes.faces)) t
-  read-short-lengths g h =
-      told text at t _ t (ap (λ n. (Err (fault.Short n), t)) faces-is
-      ∙ sym (by_tests false true _ (le-ltb (length t.points) (length d.ps) (omega (arith, points-is))) (lt-ltb (length t.lengths) (length d.fs) (omega (arith, faces-is))) refl))
+  pub read_short_lengths : l.sizes.points ≤ length t.points → length t.lengths < l.sizes.faces → ReadsSheet text at t (Err (fault.Short l.sizes.faces)) t
+  read_short_lengths g h =
+      told text at t _ t (ap (λ n. (Err (fault.Short n), t)) faces_is
+      ∙ sym (by_tests false true _ (le-ltb (length t.points) (length d.ps) (omega (arith, points_is))) (lt-ltb (length t.lengths) (length d.fs) (omega (arith, faces_is))) refl))
 
-  pub read-short-corners : l.sizes.points ≤ length t.points → l.sizes.faces ≤ length t.lengths → length t.corners < l.sizes.corners → ReadsSheet text at t (Err (fault.Short l.sizes.corners)) t
-  read-short-corners g h k =
-      told text at t _ t (ap (λ n. (Err (fault.Short n), t)) corners-is
-      ∙ sym (by_tests false false true (le-ltb (length t.points) (length d.ps) (omega (arith, points-is))) (le-ltb (length t.lengths) (length d.fs) (omega (arith, faces-is)))
-      (lt-ltb (length t.corners) (corner_count d.fs) (omega (arith, corners-is)))))
+  pub read_short_corners : l.sizes.points ≤ length t.points → l.sizes.faces ≤ length t.lengths → length t.corners < l.sizes.corners → ReadsSheet text at t (Err (fault.Short l.sizes.corners)) t
+  read_short_corners g h k =
+      told text at t _ t (ap (λ n. (Err (fault.Short n), t)) corners_is
+      ∙ sym (by_tests false false true (le-ltb (length t.points) (length d.ps) (omega (arith, points_is))) (le-ltb (length t.lengths) (length d.fs) (omega (arith, faces_is)))
+      (lt-ltb (length t.corners) (corner_count d.fs) (omega (arith, corners_is)))))
 
   pub read_ok : l.sizes.points ≤ length t.points → l.sizes.faces ≤ length t.lengths → l.sizes.corners ≤ length t.corners
       → (q : ℕ) (ps : List SolidRecord) (ls cs : List ℕ) → Fills point_line text l.points l.sizes.points t.points q ps → FillsFaces text l.faces l.sizes.faces t.lengths t.corners ls cs
@@ -173,8 +173,8 @@ module _ (text : List ℕ) (at : ℕ) (t : Tables) (l : Layout) (d : Laid text a
       let a = f d.ps d.after_points d.points in
       let b = fs d.fs d.after_faces d.faces in
       told text at t _ _ ((λ i. (Ok (d.counts i), tables (a.1 i) (b.0 i) (b.1 i)))
-      ∙ sym (by_tests false false false (le-ltb (length t.points) (length d.ps) (omega (arith, points-is))) (le-ltb (length t.lengths) (length d.fs) (omega (arith, faces-is)))
-      (le-ltb (length t.corners) (corner_count d.fs) (omega (arith, corners-is)))))
+      ∙ sym (by_tests false false false (le-ltb (length t.points) (length d.ps) (omega (arith, points_is))) (le-ltb (length t.lengths) (length d.fs) (omega (arith, faces_is)))
+      (le-ltb (length t.corners) (corner_count d.fs) (omega (arith, corners_is)))))
 
 -- in tables of the sheet's sizes, the answer is that of judging
 pub roomy : (text : List ℕ) (at : ℕ) (t : Tables) (r : Result Sizes TextFault) (u : Tables) → ReadsSheet text at t r u → (n : Sizes) → Ok n ≡ sized (judge sheet text at) → n.points ≤ length t.points → n.faces ≤ length t.lengths → n.corners ≤ length t.corners → r ≡ sized (judge sheet text at)

@@ -14,30 +14,30 @@ use Rattle.sheet.proofs.Sound.{sound}
 
 -- a face line, by its number and its corners
 module _ (text : List ℕ) (at k p : ℕ) (num : natural_at 1 64 text at ≡ Ok (k, p)) where
-  pub face-is : judge face_line text at ≡ then (judge (times k corner) text p) (λ r. then (token_at line_end text r.1) (λ q. Ok (r.0, q)))
-  face-is =
+  pub face_is : judge face_line text at ≡ then (judge (times k corner) text p) (λ r. then (token_at line_end text r.1) (λ q. Ok (r.0, q)))
+  face_is =
       ap (λ x. then x (λ r. judge (after (times r.0 corner) (λ vs. token line_end (gives vs))) text r.1)) num
       ∙ judge_after (times k corner) (λ vs. token line_end (gives vs)) text p
 
-  pub face-corner-err : (e : TextFault) → place_of (judge (times k corner) text p) ≡ Err e → Err e ≡ viewed length (judge face_line text at)
-  face-corner-err e h = sym (ap (viewed length) (face-is ∙ ap (λ x. then x (λ r. then (token_at line_end text r.1) (λ q. Ok (r.0, q)))) (placed_err (judge (times k corner) text p) e h)))
+  pub face_corner_err : (e : TextFault) → place_of (judge (times k corner) text p) ≡ Err e → Err e ≡ viewed length (judge face_line text at)
+  face_corner_err e h = sym (ap (viewed length) (face_is ∙ ap (λ x. then x (λ r. then (token_at line_end text r.1) (λ q. Ok (r.0, q)))) (placed_err (judge (times k corner) text p) e h)))
 
   module _ (p₂ : ℕ) (cs : place_of (judge (times k corner) text p) ≡ Ok p₂) where
     pub found : (vs : List ℕ) × (judge (times k corner) text p ≡ Ok (vs, p₂))
     found = placed_ok (judge (times k corner) text p) p₂ cs
 
-    pub face-end-err : (e : TextFault) → token_at line_end text p₂ ≡ Err e → Err e ≡ viewed length (judge face_line text at)
-    face-end-err e h = sym (ap (viewed length) (face-is ∙ ap (λ x. then x (λ r. then (token_at line_end text r.1) (λ q. Ok (r.0, q)))) found.1
+    pub face_end_err : (e : TextFault) → token_at line_end text p₂ ≡ Err e → Err e ≡ viewed length (judge face_line text at)
+    face_end_err e h = sym (ap (viewed length) (face_is ∙ ap (λ x. then x (λ r. then (token_at line_end text r.1) (λ q. Ok (r.0, q)))) found.1
         ∙ ap (λ x. then x (λ q. Ok (found.0, q))) h))
 
-    pub face-ok : (q : ℕ) → token_at line_end text p₂ ≡ Ok q → Ok (k, q) ≡ viewed length (judge face_line text at)
-    face-ok q h = sym (ap (viewed length) (face-is ∙ ap (λ x. then x (λ r. then (token_at line_end text r.1) (λ q. Ok (r.0, q)))) found.1
+    pub face_ok : (q : ℕ) → token_at line_end text p₂ ≡ Ok q → Ok (k, q) ≡ viewed length (judge face_line text at)
+    face_ok q h = sym (ap (viewed length) (face_is ∙ ap (λ x. then x (λ r. then (token_at line_end text r.1) (λ q. Ok (r.0, q)))) found.1
         ∙ ap (λ x. then x (λ q. Ok (found.0, q))) h)
         ∙ ap (λ n. Ok (n, q)) (times_length k corner text p found.0 p₂ found.1))
 
 -- what a face line that is accepted is made of
 pub face_split : (text : List ℕ) (at k p : ℕ) → natural_at 1 64 text at ≡ Ok (k, p) → (vs : List ℕ) (q : ℕ) → judge face_line text at ≡ Ok (vs, q) → (p₂ : ℕ) × (judge (times k corner) text p ≡ Ok (vs, p₂)) × (token_at line_end text p₂ ≡ Ok q) × (length vs ≡ k)
-face_split text at k p num vs q e = go (judge (times k corner) text p) refl (sym (face-is text at k p num) ∙ e)
+face_split text at k p num vs q e = go (judge (times k corner) text p) refl (sym (face_is text at k p num) ∙ e)
   where
     go₂ : (r : List ℕ × ℕ) (x : Result ℕ TextFault) → token_at line_end text r.1 ≡ x → judge (times k corner) text p ≡ Ok r → then {B = List ℕ × ℕ} x (λ q. Ok (r.0, q)) ≡ Ok (vs, q) → (p₂ : ℕ) × (judge (times k corner) text p ≡ Ok (vs, p₂)) × (token_at line_end text p₂ ≡ Ok q) × (length vs ≡ k)
     go₂ r (Ok z) t h e =
@@ -88,8 +88,8 @@ module _ (text : List ℕ) where
   abbrev K₀ : Result (ℕ × ℕ) TextFault → Result (Sheet × ℕ) TextFault
   K₀ x = then x (λ a. K₁ (judge (times a.0 point_line) text a.1))
 
-  sheet-is : (at : ℕ) → judge sheet text at ≡ K₀ (judge (header (codes "points")) text at)
-  sheet-is at =
+  sheet_is : (at : ℕ) → judge sheet text at ≡ K₀ (judge (header (codes "points")) text at)
+  sheet_is at =
       judge_after (header (codes "points")) (λ n. after (times n point_line) faced) text at
       ∙ then_cong (judge (header (codes "points")) text at) _ _ (λ a.
       judge_after (times a.0 point_line) faced text a.1
@@ -100,58 +100,58 @@ module _ (text : List ℕ) where
       ∙ then_cong (judge (times c.0 face_line) text c.1) _ _ (λ d.
       judge_after closing_line (λ _. gives (record { points = b.0; faces = d.0 })) text d.1))))
 
-  pub sheet-header-err : (at : ℕ) (e : TextFault) → judge (header (codes "points")) text at ≡ Err e → judge sheet text at ≡ Err e
-  sheet-header-err at e h = sheet-is at ∙ ap K₀ h
+  pub sheet_header_err : (at : ℕ) (e : TextFault) → judge (header (codes "points")) text at ≡ Err e → judge sheet text at ≡ Err e
+  sheet_header_err at e h = sheet_is at ∙ ap K₀ h
 
   module _ (at n p₁ : ℕ) (h₁ : judge (header (codes "points")) text at ≡ Ok (n, p₁)) where
     to₁ : judge sheet text at ≡ K₁ (judge (times n point_line) text p₁)
-    to₁ = sheet-is at ∙ ap K₀ h₁
+    to₁ = sheet_is at ∙ ap K₀ h₁
 
-    pub sheet-points-err : (e : TextFault) → place_of (judge (times n point_line) text p₁) ≡ Err e → judge sheet text at ≡ Err e
-    sheet-points-err e h = to₁ ∙ ap K₁ (placed_err (judge (times n point_line) text p₁) e h)
+    pub sheet_points_err : (e : TextFault) → place_of (judge (times n point_line) text p₁) ≡ Err e → judge sheet text at ≡ Err e
+    sheet_points_err e h = to₁ ∙ ap K₁ (placed_err (judge (times n point_line) text p₁) e h)
 
     module _ (p₂ : ℕ) (h₂ : place_of (judge (times n point_line) text p₁) ≡ Ok p₂) where
-      points-found : (ps : List SolidRecord) × (judge (times n point_line) text p₁ ≡ Ok (ps, p₂))
-      points-found = placed_ok (judge (times n point_line) text p₁) p₂ h₂
+      points_found : (ps : List SolidRecord) × (judge (times n point_line) text p₁ ≡ Ok (ps, p₂))
+      points_found = placed_ok (judge (times n point_line) text p₁) p₂ h₂
 
-      to₂ : judge sheet text at ≡ K₂ points-found.0 (judge (header (codes "faces")) text p₂)
-      to₂ = to₁ ∙ ap K₁ points-found.1
+      to₂ : judge sheet text at ≡ K₂ points_found.0 (judge (header (codes "faces")) text p₂)
+      to₂ = to₁ ∙ ap K₁ points_found.1
 
-      pub sheet-faces-err : (e : TextFault) → judge (header (codes "faces")) text p₂ ≡ Err e → judge sheet text at ≡ Err e
-      sheet-faces-err e h = to₂ ∙ ap (K₂ points-found.0) h
+      pub sheet_faces_err : (e : TextFault) → judge (header (codes "faces")) text p₂ ≡ Err e → judge sheet text at ≡ Err e
+      sheet_faces_err e h = to₂ ∙ ap (K₂ points_found.0) h
 
       module _ (m p₃ : ℕ) (h₃ : judge (header (codes "faces")) text p₂ ≡ Ok (m, p₃)) where
-        to₃ : judge sheet text at ≡ K₃ points-found.0 (judge (times m face_line) text p₃)
-        to₃ = to₂ ∙ ap (K₂ points-found.0) h₃
+        to₃ : judge sheet text at ≡ K₃ points_found.0 (judge (times m face_line) text p₃)
+        to₃ = to₂ ∙ ap (K₂ points_found.0) h₃
 
-        pub sheet-corners-err : (e : TextFault) → viewed corner_count (judge (times m face_line) text p₃) ≡ Err e → judge sheet text at ≡ Err e
-        sheet-corners-err e h = to₃ ∙ ap (K₃ points-found.0) (viewed_err corner_count (judge (times m face_line) text p₃) e h)
+        pub sheet_corners_err : (e : TextFault) → viewed corner_count (judge (times m face_line) text p₃) ≡ Err e → judge sheet text at ≡ Err e
+        sheet_corners_err e h = to₃ ∙ ap (K₃ points_found.0) (viewed_err corner_count (judge (times m face_line) text p₃) e h)
 
         module _ (k p₄ : ℕ) (h₄ : viewed corner_count (judge (times m face_line) text p₃) ≡ Ok (k, p₄)) where
-          faces-found : (fs : List (List ℕ)) × (judge (times m face_line) text p₃ ≡ Ok (fs, p₄)) × (corner_count fs ≡ k)
-          faces-found = viewed_ok corner_count (judge (times m face_line) text p₃) k p₄ h₄
+          faces_found : (fs : List (List ℕ)) × (judge (times m face_line) text p₃ ≡ Ok (fs, p₄)) × (corner_count fs ≡ k)
+          faces_found = viewed_ok corner_count (judge (times m face_line) text p₃) k p₄ h₄
 
-          to₄ : judge sheet text at ≡ K₄ points-found.0 faces-found.0 (judge closing_line text p₄)
-          to₄ = to₃ ∙ ap (K₃ points-found.0) faces-found.1
+          to₄ : judge sheet text at ≡ K₄ points_found.0 faces_found.0 (judge closing_line text p₄)
+          to₄ = to₃ ∙ ap (K₃ points_found.0) faces_found.1
 
-          pub sheet-closing-err : (e : TextFault) → place_of (judge closing_line text p₄) ≡ Err e → judge sheet text at ≡ Err e
-          sheet-closing-err e h = to₄ ∙ ap (K₄ points-found.0 faces-found.0) (placed_err (judge closing_line text p₄) e h)
+          pub sheet_closing_err : (e : TextFault) → place_of (judge closing_line text p₄) ≡ Err e → judge sheet text at ≡ Err e
+          sheet_closing_err e h = to₄ ∙ ap (K₄ points_found.0 faces_found.0) (placed_err (judge closing_line text p₄) e h)
 
-          pub sheet-ok : (p₅ : ℕ) → place_of (judge closing_line text p₄) ≡ Ok p₅ → Laid text at (record { sizes = record { points = n; faces = m; corners = k }; points = p₁; faces = p₃ })
-          sheet-ok p₅ h =
+          pub sheet_ok : (p₅ : ℕ) → place_of (judge closing_line text p₄) ≡ Ok p₅ → Laid text at (record { sizes = record { points = n; faces = m; corners = k }; points = p₁; faces = p₃ })
+          sheet_ok p₅ h =
               let c = placed_ok (judge closing_line text p₄) p₅ h in
-              let ln = times_length n point_line text p₁ points-found.0 p₂ points-found.1 in
-              let lm = times_length m face_line text p₃ faces-found.0 p₄ faces-found.1 in
+              let ln = times_length n point_line text p₁ points_found.0 p₂ points_found.1 in
+              let lm = times_length m face_line text p₃ faces_found.0 p₄ faces_found.1 in
               record {
-                ps = points-found.0;
-                fs = faces-found.0;
+                ps = points_found.0;
+                fs = faces_found.0;
                 after_points = p₂;
                 after_faces = p₄;
                 last = p₅;
-                points = points-found.1;
-                faces = faces-found.1;
-                whole = to₄ ∙ ap (K₄ points-found.0 faces-found.0) c.1;
-                counts = λ i. record { points = sym ln i; faces = sym lm i; corners = sym faces-found.2 i };
+                points = points_found.1;
+                faces = faces_found.1;
+                whole = to₄ ∙ ap (K₄ points_found.0 faces_found.0) c.1;
+                counts = λ i. record { points = sym ln i; faces = sym lm i; corners = sym faces_found.2 i };
               }
 
 pub judged_err : (text : List ℕ) (at : ℕ) (r : Result Layout TextFault) (e : TextFault) → r ≡ Err e → judge sheet text at ≡ Err e → Judged text at r

@@ -64,8 +64,8 @@ end_sound text p q e = go (leb (length text) p) refl e
     go false s e = absurd (never _ _ e)
 
 module _ {A : Type 0} (text : List ℕ) (p : ℕ) (a : A) (q : ℕ) where
-  token-case : (w : List ℕ) (f : Form A) (x : Result ℕ TextFault) → token_at w text p ≡ x → then x (λ r. judge f text r) ≡ Ok (a, q) → ((r : ℕ) → judge f text r ≡ Ok (a, q) → Reads f a text r q) → Reads (token w f) a text p q
-  token-case w f (Ok r) t e ih =
+  token_case : (w : List ℕ) (f : Form A) (x : Result ℕ TextFault) → token_at w text p ≡ x → then x (λ r. judge f text r) ≡ Ok (a, q) → ((r : ℕ) → judge f text r ≡ Ok (a, q) → Reads f a text r q) → Reads (token w f) a text p q
+  token_case w f (Ok r) t e ih =
       let i = ih r e in
       let s = token_sound w text p r t in
       record {
@@ -74,10 +74,10 @@ module _ {A : Type 0} (text : List ℕ) (p : ℕ) (a : A) (q : ℕ) where
         part = joined text p r q w i.bs s.0 s.1 i.part;
         long = simp length-append (omega (arith, i.long, s.1));
       }
-  token-case w f (Err x) t e ih = absurd (never _ _ e)
+  token_case w f (Err x) t e ih = absurd (never _ _ e)
 
-  natural-case : (low high : ℕ) → high < 2 ^ 32 - 1 → (k : ℕ → Form A) (x : Result (ℕ × ℕ) TextFault) → natural_at low high text p ≡ x → then x (λ r. judge (k r.0) text r.1) ≡ Ok (a, q) → ((n r : ℕ) → judge (k n) text r ≡ Ok (a, q) → Reads (k n) a text r q) → Reads (natural low high k) a text p q
-  natural-case low high h k (Ok r) t e ih =
+  natural_case : (low high : ℕ) → high < 2 ^ 32 - 1 → (k : ℕ → Form A) (x : Result (ℕ × ℕ) TextFault) → natural_at low high text p ≡ x → then x (λ r. judge (k r.0) text r.1) ≡ Ok (a, q) → ((n r : ℕ) → judge (k n) text r ≡ Ok (a, q) → Reads (k n) a text r q) → Reads (natural low high k) a text p q
+  natural_case low high h k (Ok r) t e ih =
       let i = ih r.0 r.1 e in
       let s = placed_sound (p + length (front (drop p text))) (natural_of low high p (front (drop p text))) r.0 r.1 t in
       let l = ((number_law p).1 low high h).sound (front (drop p text)) r.0 s.0 in
@@ -88,10 +88,10 @@ module _ {A : Type 0} (text : List ℕ) (p : ℕ) (a : A) (q : ℕ) where
         part = joined text p r.1 q (decimal r.0) i.bs l.0 m i.part;
         long = simp length-append (omega (arith, i.long, m));
       }
-  natural-case low high h k (Err x) t e ih = absurd (never _ _ e)
+  natural_case low high h k (Err x) t e ih = absurd (never _ _ e)
 
-  coordinate-case : (k : ℤ → Form A) (x : Result (ℤ × ℕ) TextFault) → coordinate_at text p ≡ x → then x (λ r. judge (k r.0) text r.1) ≡ Ok (a, q) → ((z : ℤ) (r : ℕ) → judge (k z) text r ≡ Ok (a, q) → Reads (k z) a text r q) → Reads (coordinate k) a text p q
-  coordinate-case k (Ok r) t e ih =
+  coordinate_case : (k : ℤ → Form A) (x : Result (ℤ × ℕ) TextFault) → coordinate_at text p ≡ x → then x (λ r. judge (k r.0) text r.1) ≡ Ok (a, q) → ((z : ℤ) (r : ℕ) → judge (k z) text r ≡ Ok (a, q) → Reads (k z) a text r q) → Reads (coordinate k) a text p q
+  coordinate_case k (Ok r) t e ih =
       let i = ih r.0 r.1 e in
       let s = placed_sound (p + length (front (drop p text))) (coordinate_of p (front (drop p text))) r.0 r.1 t in
       let l = (number_law p).0.sound (front (drop p text)) r.0 s.0 in
@@ -102,10 +102,10 @@ module _ {A : Type 0} (text : List ℕ) (p : ℕ) (a : A) (q : ℕ) where
         part = joined text p r.1 q (signed_decimal r.0) i.bs l.0 m i.part;
         long = simp length-append (omega (arith, i.long, m));
       }
-  coordinate-case k (Err x) t e ih = absurd (never _ _ e)
+  coordinate_case k (Err x) t e ih = absurd (never _ _ e)
 
-  end-case : (f : Form A) (x : Result ℕ TextFault) → end_at text p ≡ x → then x (λ r. judge f text r) ≡ Ok (a, q) → ((r : ℕ) → judge f text r ≡ Ok (a, q) → Reads f a text r q) → Reads (end f) a text p q
-  end-case f (Ok r) t e ih =
+  end_case : (f : Form A) (x : Result ℕ TextFault) → end_at text p ≡ x → then x (λ r. judge f text r) ≡ Ok (a, q) → ((r : ℕ) → judge f text r ≡ Ok (a, q) → Reads f a text r q) → Reads (end f) a text p q
+  end_case f (Ok r) t e ih =
       let i = ih r e in
       let s = end_sound text p r t in
       let l : length (i.bs ++ drop q text) ≡ 0 = ap length (sym i.part ∙ drop_all r text (omega arith)) in
@@ -116,7 +116,7 @@ module _ {A : Type 0} (text : List ℕ) (p : ℕ) (a : A) (q : ℕ) where
         part = ap (λ n. drop n text) (sym s.1) ∙ i.part ∙ ap (λ x. x ++ drop q text) none;
         long = omega (arith, i.long, ap length none, s.1);
       }
-  end-case f (Err x) t e ih = absurd (never _ _ e)
+  end_case f (Err x) t e ih = absurd (never _ _ e)
 
 pub sound : {A : Type 0} (f : Form A) → Small f → (text : List ℕ) (p : ℕ) (a : A) (q : ℕ) → judge f text p ≡ Ok (a, q) → Reads f a text p q
 sound (gives b) s text p a q e =
@@ -127,7 +127,7 @@ sound (gives b) s text p a q e =
       part = ap (λ n. drop n text) (ap (λ r. r.1) o);
       long = omega (arith, ap (λ r. r.1) o);
     }
-sound (token w f) s text p a q e = token-case text p a q w f (token_at w text p) refl e (λ r h. sound f s text r a q h)
-sound (natural low high k) s text p a q e = natural-case text p a q low high s.0 k (natural_at low high text p) refl e (λ n r h. sound (k n) (s.1 n) text r a q h)
-sound (coordinate k) s text p a q e = coordinate-case text p a q k (coordinate_at text p) refl e (λ z r h. sound (k z) (s z) text r a q h)
-sound (end f) s text p a q e = end-case text p a q f (end_at text p) refl e (λ r h. sound f s text r a q h)
+sound (token w f) s text p a q e = token_case text p a q w f (token_at w text p) refl e (λ r h. sound f s text r a q h)
+sound (natural low high k) s text p a q e = natural_case text p a q low high s.0 k (natural_at low high text p) refl e (λ n r h. sound (k n) (s.1 n) text r a q h)
+sound (coordinate k) s text p a q e = coordinate_case text p a q k (coordinate_at text p) refl e (λ z r h. sound (k z) (s z) text r a q h)
+sound (end f) s text p a q e = end_case text p a q f (end_at text p) refl e (λ r h. sound f s text r a q h)

@@ -84,24 +84,24 @@ pub record Writes {A : Type 0} (f : Form A) (tx : A → List ℕ) (In : A → Ty
   pub endless : Endless f
 
 module _ {A : Type 0} (f : Form A) (tx : A → List ℕ) (In : A → Type 0) (w : Writes f tx In) where
-  times-only : (n : ℕ) {ps : List A} {bs : List ℕ} → Spelled (times n f) ps bs → (bs ≡ flat_map tx ps) × All In ps × (length ps ≡ n)
-  times-only zero s_gives = (refl, tt, refl)
-  times-only (suc n) {ps} {bs} s =
+  times_only : (n : ℕ) {ps : List A} {bs : List ℕ} → Spelled (times n f) ps bs → (bs ≡ flat_map tx ps) × All In ps × (length ps ≡ n)
+  times_only zero s_gives = (refl, tt, refl)
+  times_only (suc n) {ps} {bs} s =
       let t = two f (λ a. after (times n f) (λ rest. gives (a ∷ rest))) s in
       let u = two (times n f) (λ rest. gives (t.a ∷ rest)) t.second in
       let g = said u.second in
       let o = w.only t.first in
-      let i = times-only n u.first in
+      let i = times_only n u.first in
       let e : bs ≡ flat_map tx (t.a ∷ u.a) =
       t.whole ∙ (λ j. o.0 j ++ (u.whole ∙ (λ l. i.0 l ++ g.1 l) ∙ append-nil (flat_map tx u.a)) j) in
       (e ∙ ap (flat_map tx) g.0, subst (All In) g.0 (o.1, i.1), ap length (sym g.0) ∙ ap suc i.2)
 
-  times-every : (ps : List A) → All In ps → Spelled (times (length ps) f) ps (flat_map tx ps)
-  times-every [] h = s_gives
-  times-every (p ∷ ps) h =
+  times_every : (ps : List A) → All In ps → Spelled (times (length ps) f) ps (flat_map tx ps)
+  times_every [] h = s_gives
+  times_every (p ∷ ps) h =
       both (w.every p h.0) w.endless (λ a. after (times (length ps) f) (λ rest. gives (a ∷ rest)))
       (subst (λ x. Spelled (after (times (length ps) f) (λ rest. gives (p ∷ rest))) (p ∷ ps) x) (append-nil (flat_map tx ps))
-      (both (times-every ps h.1) (endless_times (length ps) f w.endless) (λ rest. gives (p ∷ rest)) s_gives))
+      (both (times_every ps h.1) (endless_times (length ps) f w.endless) (λ rest. gives (p ∷ rest)) s_gives))
 
 pub point_writes : Writes point_line point_text PointIn
 unfolding Endless
@@ -136,14 +136,14 @@ face_writes = record { only = λ s. go s; every = back; endless = λ k. endless_
     go {vs} (s_natural k l h s) =
         let t = two (times k corner) (λ vs. token line_end (gives vs)) s in
         let e = last t.second in
-        let o = times-only corner (λ v. blank ++ decimal v) (λ v. v ≤ 1048575) corner_writes k t.first in
+        let o = times_only corner (λ v. blank ++ decimal v) (λ v. v ≤ 1048575) corner_writes k t.first in
         let n : length vs ≡ k = ap length (sym e.0) ∙ o.2 in (
           (λ j. decimal (sym n j) ++ (t.whole ∙ (λ i. (o.0 ∙ ap (flat_map (λ v. blank ++ decimal v)) e.0) i ++ e.1 i)) j),
           (omega arith, omega arith, subst (All (λ v. v ≤ 1048575)) e.0 o.1),
         )
 
     back : (vs : List ℕ) → FaceIn vs → Spelled face_line vs (face_text vs)
-    back vs i = s_natural (length vs) i.0 i.1 (both (times-every corner (λ v. blank ++ decimal v) (λ v. v ≤ 1048575) corner_writes vs i.2) (endless_times (length vs) corner corner_writes.endless) (λ us. token line_end (gives us)) (s_token s_gives))
+    back vs i = s_natural (length vs) i.0 i.1 (both (times_every corner (λ v. blank ++ decimal v) (λ v. v ≤ 1048575) corner_writes vs i.2) (endless_times (length vs) corner corner_writes.endless) (λ us. token line_end (gives us)) (s_token s_gives))
 
 abbrev faces_text : List (List ℕ) → List ℕ
 faces_text fs = codes "faces" ++ (blank ++ (decimal (length fs) ++ (line_end ++ (flat_map face_text fs ++ (codes "end" ++ line_end)))))
@@ -161,7 +161,7 @@ record Faces (ps : List SolidRecord) (s : Sheet) (bs : List ℕ) : Type 0 where
 faces_only : {ps : List SolidRecord} {s : Sheet} {bs : List ℕ} → Spelled (faced ps) s bs → Faces ps s bs
 faces_only {ps} (s_token (s_token (s_natural m l h (s_token s)))) =
     let t = two (times m face_line) (closed ps) s in
-    let o = times-only face_line face_text FaceIn face_writes m t.first in
+    let o = times_only face_line face_text FaceIn face_writes m t.first in
     let e = closing_only t.second in
     record {
       fs = t.a;
@@ -174,7 +174,7 @@ faces_only {ps} (s_token (s_token (s_natural m l h (s_token s)))) =
 pub sheet_only : {s : Sheet} {bs : List ℕ} → Spelled sheet s bs → (bs ≡ sheet_text s) × Ranged s
 sheet_only {s} (s_token (s_token (s_natural n l h (s_token r)))) =
     let t = two (times n point_line) faced r in
-    let o = times-only point_line point_text PointIn point_writes n t.first in
+    let o = times_only point_line point_text PointIn point_writes n t.first in
     let f = faces_only t.second in (
       (λ j. codes "points" ++ (blank ++ (decimal (sym o.2 j) ++ (line_end ++ (t.whole ∙ (λ i. o.0 i ++ f.text i)) j)))) ∙ ap sheet_text f.is,
       subst Ranged f.is (record { few_points = omega (arith, o.2); few_faces = f.few; points_in = o.1; faces_in = f.within }),
@@ -183,7 +183,7 @@ sheet_only {s} (s_token (s_token (s_natural n l h (s_token r)))) =
 pub sheet_every : (s : Sheet) → Ranged s → Spelled sheet s (sheet_text s)
 sheet_every s r =
     s_token (s_token (s_natural (length s.points) (omega arith) r.few_points (s_token
-    (both (times-every point_line point_text PointIn point_writes s.points r.points_in) (endless_times (length s.points) point_line point_writes.endless) faced
+    (both (times_every point_line point_text PointIn point_writes s.points r.points_in) (endless_times (length s.points) point_line point_writes.endless) faced
     (s_token (s_token (s_natural (length s.faces) (omega arith) r.few_faces (s_token
-    (both (times-every face_line face_text FaceIn face_writes s.faces r.faces_in) (endless_times (length s.faces) face_line face_writes.endless) (closed s.points)
+    (both (times_every face_line face_text FaceIn face_writes s.faces r.faces_in) (endless_times (length s.faces) face_line face_writes.endless) (closed s.points)
     (s_token (s_token (s_end s_gives))))))))))))

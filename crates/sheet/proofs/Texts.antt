@@ -28,12 +28,12 @@ module _ {A : Type 0} (f : Form A) (tx : A → List ℕ) (In : A → Type 0)
   taken text p a i e = complete (every a i) parted text p e
 
   -- and is the text of nothing else
-  pub one-text : (a b : A) → In a → In b → tx a ≡ tx b → a ≡ b
-  one-text a b i j e = ap (λ x. x.0) (ok_is _ _ (sym (taken (tx b) 0 a i (sym e)) ∙ taken (tx b) 0 b j refl))
+  pub one_text : (a b : A) → In a → In b → tx a ≡ tx b → a ≡ b
+  one_text a b i j e = ap (λ x. x.0) (ok_is _ _ (sym (taken (tx b) 0 a i (sym e)) ∙ taken (tx b) 0 b j refl))
 
   -- any other is declined at its first wrong token
-  abbrev wrong-at : (text : List ℕ) (at : ℕ) (e : TextFault) → Wrong f text at e → FirstWrong tx In text at (fault_place e)
-  wrong-at text at e w =
+  abbrev wrong_at : (text : List ℕ) (at : ℕ) (e : TextFault) → Wrong f text at e → FirstWrong tx In text at (fault_place e)
+  wrong_at text at e w =
       let o = only _ _ w.begun.2 in
       record {
         before = w.before;
@@ -43,17 +43,17 @@ module _ {A : Type 0} (f : Form A) (tx : A → List ℕ) (In : A → Type 0)
         wrong = λ a rest i g. w.wrong a rest (subst (λ x. Spelled f a x) g (every a i));
       }
 
-  pub past-limit : (text : List ℕ) (at p : ℕ) → judge f text at ≡ Err (fault.Limit p) → PastLimit tx In text at p
-  past-limit text at p h =
+  pub past_limit : (text : List ℕ) (at p : ℕ) → judge f text at ≡ Err (fault.Limit p) → PastLimit tx In text at p
+  past_limit text at p h =
       let w = first_wrong f parted fillable text at (fault.Limit p) h in
       let s = w.sort in
       let o = only _ _ s.2 in
-      (wrong-at text at (fault.Limit p) w, s.0, s.1, o.1, sym o.0, s.3)
+      (wrong_at text at (fault.Limit p) w, s.0, s.1, o.1, sym o.0, s.3)
 
-  pub off-form : (text : List ℕ) (at p : ℕ) → judge f text at ≡ Err (fault.Form p) → OffForm tx In text at p
-  off-form text at p h =
+  pub off_form : (text : List ℕ) (at p : ℕ) → judge f text at ≡ Err (fault.Form p) → OffForm tx In text at p
+  off_form text at p h =
       let w = first_wrong f parted fillable text at (fault.Form p) h in
-      (wrong-at text at (fault.Form p) w, λ a rest i g l. w.sort a rest (subst (λ x. Spelled f a x) g (every a i)) l)
+      (wrong_at text at (fault.Form p) w, λ a rest i g l. w.sort a rest (subst (λ x. Spelled f a x) g (every a i)) l)
 
-  pub never-short : (text : List ℕ) (at n : ℕ) → judge f text at ≡ Err (fault.Short n) → ⊥
-  never-short text at n h = (first_wrong f parted fillable text at (fault.Short n) h).sort
+  pub never_short : (text : List ℕ) (at n : ℕ) → judge f text at ≡ Err (fault.Short n) → ⊥
+  never_short text at n h = (first_wrong f parted fillable text at (fault.Short n) h).sort

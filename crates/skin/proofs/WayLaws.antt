@@ -6,8 +6,8 @@ use Rattle.mesh.specs.Rungs.{rung, level}
 use Rattle.skin.specs.Ways.{act, way_across, way_below, way_digit, way_stays, way_under}
 use Rattle.skin.specs.declared.ladder.Way.{Way}
 use Rattle.skin.specs.declared.ladder.Way.TheVariants.{Stay, Next, Prev, Twin, Turn, Unturn}
-use Rattle.mesh.proofs.DualLaws.{dual-lawful, turn_below}
-use Rattle.mesh.proofs.QuadLaws.{quad-lawful, next0, next1, next2, next3, prev0, prev1, prev2, prev3, twin0, twin1, twin2, twin3, turn0, turn1, turn2, turn3}
+use Rattle.mesh.proofs.DualLaws.{dual_lawful, turn_below}
+use Rattle.mesh.proofs.QuadLaws.{quad_lawful, next0, next1, next2, next3, prev0, prev1, prev2, prev3, twin0, twin1, twin2, twin3, turn0, turn1, turn2, turn3}
 use Rattle.mesh.proofs.RungLaws.{rung_lawful, rung_below, level_zero, level_suc, level_lawful, level_below}
 
 -- a way at a Quad

@@ -2,7 +2,7 @@
 ghost use Rattle.std.specs.Prelude.{◌≡◌};
 ghost use Rattle.mesh.specs.Mesh.{Same, dual};
 ghost use Rattle.mesh.specs.Count.{DualCounts};
-ghost use Rattle.mesh.proofs.DualLaws.{dual-lawful};
+ghost use Rattle.mesh.proofs.DualLaws.{dual_lawful};
 ghost use Rattle.skin.specs.Skins.{mesh};
 
 use crate::skin::Skin;
@@ -32,7 +32,7 @@ impl<S: Skin> Skin for Dual<S> {
 
     ghost twin = { λ d. (dual (mesh S.Skin d.base)).twin };
 
-    ghost lawful = { λ d. dual-lawful (mesh S.Skin d.base) (S.Skin.lawful d.base) };
+    ghost lawful = { λ d. dual_lawful (mesh S.Skin d.base) (S.Skin.lawful d.base) };
 
     fn n(&self) -> u32 {
         self.base.n()

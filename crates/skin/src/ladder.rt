@@ -4,8 +4,8 @@ ghost use Rattle.mesh.specs.Mesh.{Mesh, within};
 ghost use Rattle.skin.specs.declared.fault.Fault.TheVariants.{Rungs};
 ghost use Rattle.mesh.specs.Rungs.{level, rung};
 ghost use Rattle.skin.specs.Skins.{mesh};
-ghost use Rattle.skin.specs.Ways.{act, way-across, way-below, way-digit, way-stays, way-under};
-ghost use Rattle.mesh.proofs.RungLaws.{level-lawful};
+ghost use Rattle.skin.specs.Ways.{act, way_across, way_below, way_digit, way_stays, way_under};
+ghost use Rattle.mesh.proofs.RungLaws.{level_lawful};
 
 use crate::fault::Fault;
 use crate::quad::QUARTER;
@@ -38,7 +38,7 @@ impl Way {
 
     // The way below a Dual.
     fn across(self) -> Way
-        ensures { result ≡ way-across self }
+        ensures { result ≡ way_across self }
     {
         match self {
             Way::Stay => Way::Stay,
@@ -53,7 +53,7 @@ impl Way {
     // The way from dart h below a Quad, for one from dart 4h + j.
     fn below(self, j: u32) -> Way
         requires { j < 4 }
-        ensures { result ≡ way-below self j }
+        ensures { result ≡ way_below self j }
     {
         match self {
             Way::Stay | Way::Next | Way::Prev => Way::Stay,
@@ -75,7 +75,7 @@ impl Way {
     // The way below a Quad, and below the Dual too where the bit is 1.
     fn under(self, bit: bool, j: u32) -> Way
         requires { j < 4 }
-        ensures { result ≡ way-under bit (way-below self j) }
+        ensures { result ≡ way_under bit (way_below self j) }
     {
         let w = self.below(j);
         if bit { w.across() } else { w }
@@ -84,7 +84,7 @@ impl Way {
     // Which of the four darts of a Quad it leads to from dart 4h + j.
     fn digit(self, j: u32) -> u32
         requires { j < 4 }
-        ensures { result ≡ way-digit self j }
+        ensures { result ≡ way_digit self j }
     {
         match self {
             Way::Stay => j,
@@ -223,7 +223,7 @@ impl<S: Skin> Skin for Ladder<S> {
 
     ghost twin = { λ l. (level l.count l.bits (mesh S.Skin l.base)).twin };
 
-    ghost lawful = { λ l. level-lawful l.count l.bits (mesh S.Skin l.base) (S.Skin.lawful l.base) };
+    ghost lawful = { λ l. level_lawful l.count l.bits (mesh S.Skin l.base) (S.Skin.lawful l.base) };
 
     fn n(&self) -> u32 {
         self.size()

@@ -3,7 +3,7 @@ ghost use Rattle.std.specs.Prelude.{◌≡◌, ◌≤◌};
 ghost use Rattle.mesh.specs.Mesh.{quad};
 ghost use Rattle.mesh.specs.Count.{QuadCounts};
 ghost use Rattle.mesh.specs.Shapes.{SplitLaw};
-ghost use Rattle.mesh.proofs.QuadLaws.{quad-lawful};
+ghost use Rattle.mesh.proofs.QuadLaws.{quad_lawful};
 ghost use Rattle.skin.specs.Skins.{mesh};
 
 use crate::skin::Skin;
@@ -36,7 +36,7 @@ impl<S: Skin> Skin for Quad<S> {
 
     ghost twin = { λ q. (quad (mesh S.Skin q.base)).twin };
 
-    ghost lawful = { λ q. quad-lawful (mesh S.Skin q.base) (S.Skin.lawful q.base) };
+    ghost lawful = { λ q. quad_lawful (mesh S.Skin q.base) (S.Skin.lawful q.base) };
 
     fn n(&self) -> u32 {
         let n = self.base.n();

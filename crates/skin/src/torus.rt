@@ -1,7 +1,7 @@
 // The torus, a skin with no tables.
 ghost use Rattle.std.specs.Prelude.{◌≡◌, ℕ, ◌+◌, ◌*◌, ◌<◌, ◌≤◌, Some, None, MatchResult};
 ghost use Rattle.mesh.specs.Cells.{torus as grid, after as following, before as preceding, dart as place, across};
-ghost use Rattle.mesh.proofs.Grid.{torus-lawful};
+ghost use Rattle.mesh.proofs.Grid.{torus_lawful};
 ghost use Rattle.skin.specs.Sides.{side_fault};
 
 use crate::fault::Fault;
@@ -50,7 +50,7 @@ impl Skin for Torus {
 
     ghost twin = { λ t. (grid t.w t.h).twin };
 
-    ghost lawful = { λ t. torus-lawful t.w t.h t.wide.0 t.wide.1 t.high.1 };
+    ghost lawful = { λ t. torus_lawful t.w t.h t.wide.0 t.wide.1 t.high.1 };
 
     fn n(&self) -> u32 {
         self.darts()

@@ -3,8 +3,8 @@ use Rattle.std.proofs.Common.{◌≡◌, ℕ, ◌+◌, ◌*◌, ◌/◌, ◌^◌
 use Rattle.std.proofs.lemmas.List.{length-map}
 use Rattle.mesh.specs.Mesh.{turn, ring, dual, Lawful}
 use Rattle.mesh.proofs.Rings.{ring_agree, ring_pos}
-use Rattle.mesh.proofs.DualLaws.{dual-lawful}
-use Rattle.mesh.proofs.Same.{same_trans, same-dual}
+use Rattle.mesh.proofs.DualLaws.{dual_lawful}
+use Rattle.mesh.proofs.Same.{same_trans, same_dual}
 use Rattle.mesh.proofs.Figures.{figure_same, figure_dual}
 use Rattle.mesh.proofs.Rounds.{Rounds, period, face_rounds, keeps}
 use Rattle.point.specs.Listed.{totals_at}
@@ -30,30 +30,30 @@ module _ {X : Type 0} {point : X → Point} {d slack : ℕ} {mean : ℕ → List
     unfolding round
     long h = length-map (ring w.carrier.next h) (λ x. get_or before x [])
 
-    real-round : (h : ℕ) → h < w.carrier.n → Each (λ p. (r : X) × (point r ≡ p)) (round h)
+    real_round : (h : ℕ) → h < w.carrier.n → Each (λ p. (r : X) × (point r ≡ p)) (round h)
     unfolding round
-    real-round h l =
+    real_round h l =
         each_map (λ p. (r : X) × (point r ≡ p)) (λ x. get_or before x []) (ring w.carrier.next h)
         (each_so (λ x. x < w.carrier.n) (λ x. (r : X) × (point r ≡ get_or before x [])) real (ring w.carrier.next h) (ring_below rs h l))
 
     -- the mean, as the kind's laws have it
-    mean-is : (h : ℕ) → ring_mean d mean w.carrier before h ≡ mean (length (round h)) (totals d (round h))
+    mean_is : (h : ℕ) → ring_mean d mean w.carrier before h ≡ mean (length (round h)) (totals d (round h))
     unfolding round
-    mean-is h = ap (λ k. mean k (totals d (map (λ x. get_or before x []) (ring w.carrier.next h)))) (sym (long h))
+    mean_is h = ap (λ k. mean k (totals d (map (λ x. get_or before x []) (ring w.carrier.next h)))) (sym (long h))
 
-    total-is : (h i : ℕ) → i < d → coordinate (totals d (round h)) i ≡ total (map (λ x. coordinate (get_or before x []) i) (ring w.carrier.next h))
+    total_is : (h i : ℕ) → i < d → coordinate (totals d (round h)) i ≡ total (map (λ x. coordinate (get_or before x []) i) (ring w.carrier.next h))
     unfolding round
-    total-is h i l = totals_at d (round h) i l ∙ ap total (map_map (λ p. coordinate p i) (λ x. get_or before x []) (ring w.carrier.next h))
+    total_is h i l = totals_at d (round h) i l ∙ ap total (map_map (λ p. coordinate p i) (λ x. get_or before x []) (ring w.carrier.next h))
 
-    here-near : (h i : ℕ) → h < w.carrier.n → i < d
+    here_near : (h i : ℕ) → h < w.carrier.n → i < d
         → 2 * distance (coordinate (ring_mean d mean w.carrier before h) i *ℤ pos (common ^ (R.averages + 1))) ((after_average R).exact h i)
         ≤ slack * (R.averages + 1) * common ^ (R.averages + 1)
-    here-near h i l li =
+    here_near h i l li =
         let k : ℕ = period w.carrier.next h in
         let n0 : R.carrier.n ≡ w.carrier.n = sym faith.carried.n in
-        let near₁ = kind.near (round h) (real-round h l) (rw (long h) (ring_pos w.carrier.next h)) (rw (long h) (rs.short h l)) i li in
+        let near₁ = kind.near (round h) (real_round h l) (rw (long h) (ring_pos w.carrier.next h)) (rw (long h) (rs.short h l)) i li in
         let near₂ : 2 * distance (coordinate (ring_mean d mean w.carrier before h) i *ℤ pos k) (total (map (λ x. coordinate (get_or before x []) i) (ring w.carrier.next h))) ≤ slack * k =
-        rw (mean-is h, ← total-is h i li, ← long h) near₁ in
+        rw (mean_is h, ← total_is h i li, ← long h) near₁ in
         let sums : 2 * distance (total (map (λ x. coordinate (get_or before x []) i) (ring w.carrier.next h)) *ℤ pos (common ^ R.averages)) (total (map (λ x. R.exact x i) (ring w.carrier.next h)))
         ≤ length (ring w.carrier.next h) * (slack * R.averages * common ^ R.averages) =
         totals_near (λ x. coordinate (get_or before x []) i) (λ x. R.exact x i) (common ^ R.averages) (slack * R.averages * common ^ R.averages) (ring w.carrier.next h)
@@ -71,29 +71,29 @@ module _ {X : Type 0} {point : X → Point} {d slack : ℕ} {mean : ℕ → List
         subst (λ z. 2 * distance (coordinate (ring_mean d mean w.carrier before h) i *ℤ pos (common ^ (R.averages + 1))) z ≤ slack * (R.averages + 1) * common ^ (R.averages + 1)) (sym exact)
         (subst (λ z. 2 * distance (coordinate (ring_mean d mean w.carrier before h) i *ℤ pos z) (n *ℤ pos q) ≤ slack * (R.averages + 1) * z) (sym power) all)
 
-    here-inside : (h i : ℕ) → h < w.carrier.n → i < d → (lo hi : ℤ) → Each (Between lo hi i) R.entered → Between lo hi i (ring_mean d mean w.carrier before h)
+    here_inside : (h i : ℕ) → h < w.carrier.n → i < d → (lo hi : ℤ) → Each (Between lo hi i) R.entered → Between lo hi i (ring_mean d mean w.carrier before h)
     unfolding round
-    here-inside h i l li lo hi e =
+    here_inside h i l li lo hi e =
         let n0 : R.carrier.n ≡ w.carrier.n = sym faith.carried.n in
         let parts : Each (Between lo hi i) (map (λ x. get_or before x []) (ring w.carrier.next h)) =
         each_map (Between lo hi i) (λ x. get_or before x []) (ring w.carrier.next h)
         (each_so (λ x. x < w.carrier.n) (λ x. Between lo hi i (get_or before x [])) (λ x lx. faith.inside x i (subst (λ n. x < n) (sym n0) lx) li lo hi e) (ring w.carrier.next h)
         (ring_below rs h l)) in
-        subst (Between lo hi i) (sym (mean-is h))
-        (kind.inside (round h) (real-round h l) (rw (long h) (ring_pos w.carrier.next h)) (rw (long h) (rs.short h l)) i li lo hi parts)
+        subst (Between lo hi i) (sym (mean_is h))
+        (kind.inside (round h) (real_round h l) (rw (long h) (ring_pos w.carrier.next h)) (rw (long h) (rs.short h l)) i li lo hi parts)
 
-    pub average-keeps : {w' : Work} {after : List Point} → Next 0 1 (dual w.carrier) w w' → Averaged d mean w.carrier before after
+    pub average_keeps : {w' : Work} {after : List Point} → Next 0 1 (dual w.carrier) w w' → Averaged d mean w.carrier before after
         → Faithful d slack (after_average R) w' after
-    average-keeps {w'} {after} next out = record {
-      carried = same_trans next.carried (same-dual w.carrier R.carrier law faith.carried);
+    average_keeps {w'} {after} next out = record {
+      carried = same_trans next.carried (same_dual w.carrier R.carrier law faith.carried);
       split_so = next.split_so ∙ add-zero w.splits ∙ faith.split_so;
       averaged_so = next.averaged_so ∙ ap (λ a. a + 1) faith.averaged_so;
       covers = rw out.long faith.covers;
       near = λ h i l li. subst (λ z. 2 * distance (coordinate z i *ℤ pos (common ^ (R.averages + 1))) ((after_average R).exact h i) ≤ slack * (R.averages + 1) * common ^ (R.averages + 1))
-          (sym (out.here h (low h l))) (here-near h i (low h l) li);
+          (sym (out.here h (low h l))) (here_near h i (low h l) li);
       rings = λ h k l. keeps R.carrier.n (turn (dual R.carrier)) (λ x. get_or after x []) below one k h l;
-      inside = λ h i l li lo hi e. subst (Between lo hi i) (sym (out.here h (low h l))) (here-inside h i (low h l) li lo hi e);
-      figured = sym (figure_same (dual-lawful w.carrier law) (same-dual w.carrier R.carrier law faith.carried)) ∙ figure_dual w.carrier law ∙ figure_same law faith.carried ∙ faith.figured;
+      inside = λ h i l li lo hi e. subst (Between lo hi i) (sym (out.here h (low h l))) (here_inside h i (low h l) li lo hi e);
+      figured = sym (figure_same (dual_lawful w.carrier law) (same_dual w.carrier R.carrier law faith.carried)) ∙ figure_dual w.carrier law ∙ figure_same law faith.carried ∙ faith.figured;
     }
       where
         low : (h : ℕ) → h < R.carrier.n → h < w.carrier.n

@@ -4,9 +4,9 @@ use Rattle.std.proofs.lemmas.List.{get_or_append_left, get_or-append_right, leng
 use Rattle.std.proofs.lemmas.Bool.{cases_lt, both_ways, cond-true, cond-false, and_parts, leb-true, ltb-true}
 use Rattle.mesh.specs.Mesh.{Mesh, Lawful, Same, dual, ring, turn, among}
 use Rattle.mesh.specs.Count.{split, faces}
-use Rattle.mesh.proofs.Leads.{faces-same}
+use Rattle.mesh.proofs.Leads.{faces_same}
 use Rattle.skin.proofs.Counted.{counting_same}
-use Rattle.mesh.proofs.Rounds.{face_rounds, vertex_rounds, ring-inside}
+use Rattle.mesh.proofs.Rounds.{face_rounds, vertex_rounds, ring_inside}
 use Rattle.skin.specs.Counts.{counting}
 use Rattle.skin.specs.declared.skin.Skin.{Ghosts}
 use Rattle.point.specs.Kinds.{place, mean_point}
@@ -23,8 +23,8 @@ use Rattle.workpiece.specs.Answers.{average_answer, split_answer, reach_answer, 
 use Rattle.workpiece.specs.Outcomes.{Split, Averaged, Placed, ring_mean, Next}
 use Rattle.workpiece.specs.Calls.{Keeps, Tells, AverageDone, SplitDone, PlaceDone, ReadDone, CountDone}
 use Rattle.workpiece.proofs.Lists.{PlaceLaws, same_map}
-use Rattle.workpiece.proofs.Average.{average-keeps}
-use Rattle.workpiece.proofs.Split.{split-keeps, place-keeps}
+use Rattle.workpiece.proofs.Average.{average_keeps}
+use Rattle.workpiece.proofs.Split.{split_keeps, place_keeps}
 
 real_at : {X : Type 0} (point : X → Point) (ts : List X) (h : ℕ) → h < length ts → (r : X) × (point r ≡ get_or (map point ts) h [])
 real_at point [] h l = absurd (omega arith)
@@ -47,7 +47,7 @@ mean_rest : (d : ℕ) (mean : ℕ → List ℤ → Point) {m : Mesh} → Lawful 
     → ring_mean d mean m t h ≡ ring_mean d mean m (t ++ rest) h
 mean_rest d mean {m} law t rest h l fits =
     ap (λ ps. mean (length (ring m.next h)) (totals d ps)) (same_map (λ x. get_or t x []) (λ x. get_or (t ++ rest) x []) (ring m.next h) (λ x e.
-    let low : x < m.n = ring-inside (face_rounds law) h x l e in
+    let low : x < m.n = ring_inside (face_rounds law) h x l e in
     sym (rest_left t rest x (omega arith))))
 
 averaged_rest : (d : ℕ) (mean : ℕ → List ℤ → Point) {m : Mesh} → Lawful m → (t t' rest : List Point) → m.n ≤ length t → Averaged d mean m t t' → Averaged d mean m (t ++ rest) (t' ++ rest)
@@ -63,7 +63,7 @@ average_told : {P : Type 0} (numbers : P → Point) (d slack : ℕ) (w : Work) (
 average_told numbers d slack w t len r law answer R rest faith =
     let F : ℕ → ℕ → ℕ → Result ℕ WorkFault = λ a n f. cond (leb n len) (cond (ltb a 255) (Ok f) (Err AveragesSpent)) (Err (Short n)) in
     ap (λ x. An.Average x)
-    (answer ∙ ap (λ a. F a w.carrier.n (faces w.carrier)) faith.averaged_so ∙ ap₂ (F R.averages) faith.carried.n (faces-same w.carrier R.carrier law faith.carried))
+    (answer ∙ ap (λ a. F a w.carrier.n (faces w.carrier)) faith.averaged_so ∙ ap₂ (F R.averages) faith.carried.n (faces_same w.carrier R.carrier law faith.carried))
 
 split_told : {P : Type 0} (numbers : P → Point) (d slack : ℕ) (w : Work) (t : List Point) (len : ℕ) (r : Result (Unit {0}) WorkFault)
     → r ≡ split_answer w.splits w.carrier.n len → Tells numbers d slack (Call.split len) (An.Split r) w t
@@ -90,14 +90,14 @@ average_accepted {X} {point} {d} {slack} {mean} kind w w' ts t' law yes' next ou
     let fits' : w.carrier.n ≤ length (map point ts) = rw (length-map ts point) fits in
     subst (λ S. Faithful d slack S w' (t' ++ rest))
     (sym (cond-true (may_average R.averages R.carrier.n (length ts)) (after_average R) R (ap₂ (λ a n. may_average a n (length ts)) (sym faith.averaged_so) (sym faith.carried.n) ∙ yes')))
-    (average-keeps kind law faith
+    (average_keeps kind law faith
     (λ h l. let r = real_at point ts h (omega arith) in (r.0, r.1 ∙ sym (rest_left (map point ts) rest h (omega arith))))
     next (averaged_rest d mean law (map point ts) t' rest fits' out))
 
 module _ {S A X P Q : Type 0} (k : Ghosts S) (kd : Kind A X P Q) where
-  pub average-no : (w : Workpiece S) (t : List X) (r : Result ℕ WorkFault) → Lawful (work k w).carrier → may_average w.averages (work k w).carrier.n (length t) ≡ false → r ≡ average_answer w.averages (work k w).carrier (length t)
+  pub average_no : (w : Workpiece S) (t : List X) (r : Result ℕ WorkFault) → Lawful (work k w).carrier → may_average w.averages (work k w).carrier.n (length t) ≡ false → r ≡ average_answer w.averages (work k w).carrier (length t)
       → AverageDone k kd w t r w t
-  average-no w t r law no' answer = record {
+  average_no w t r law no' answer = record {
     answer = answer;
     held = refl;
     accepted = λ yes'. absurd (both_ways _ no' yes');
@@ -106,11 +106,11 @@ module _ {S A X P Q : Type 0} (k : Ghosts S) (kd : Kind A X P Q) where
     told = average_told kd.numbers kd.width kd.slack (work k w) (map (place kd) t) (length t) r law answer;
   }
 
-  pub average-yes : PlaceLaws (place kd) kd.width kd.slack (mean_point kd) → (w w' : Workpiece S) (t t' : List X) (r : Result ℕ WorkFault) → Lawful (work k w).carrier
+  pub average_yes : PlaceLaws (place kd) kd.width kd.slack (mean_point kd) → (w w' : Workpiece S) (t t' : List X) (r : Result ℕ WorkFault) → Lawful (work k w).carrier
       → may_average w.averages (work k w).carrier.n (length t) ≡ true → r ≡ average_answer w.averages (work k w).carrier (length t)
       → opened_skin w' ≡ opened_skin w → Next 0 1 (dual (work k w).carrier) (work k w) (work k w') → Averaged kd.width (mean_point kd) (work k w).carrier (map (place kd) t) (map (place kd) t')
       → AverageDone k kd w t r w' t'
-  average-yes kind w w' t t' r law yes' answer held next out = record {
+  average_yes kind w w' t t' r law yes' answer held next out = record {
     answer = answer;
     held = held;
     accepted = λ _. (next, out);
@@ -141,7 +141,7 @@ split_accepted d slack w w' t t' len long law law' yes' next out R rest faith =
     let fits : 4 * w.carrier.n ≤ len = leb-true _ _ parts.1 in
     subst (λ S. Faithful d slack S w' (t' ++ rest))
     (sym (cond-true (may_split R.splits R.carrier.n len) (after_split R) R (ap₂ (λ a n. may_split a n len) (sym faith.split_so) (sym faith.carried.n) ∙ yes')))
-    (split-keeps law faith law' next few (rw (length-append t rest) (omega arith)) (split_rest w.carrier.n t t' rest (omega arith) out))
+    (split_keeps law faith law' next few (rw (length-append t rest) (omega arith)) (split_rest w.carrier.n t t' rest (omega arith) out))
 
 -- ---- place
 placed_rest : {m : Mesh} → Lawful m → (dart : ℕ) → dart < m.n → (p : Point) (t t' rest : List Point) → m.n ≤ length t → Placed m dart p t t' → Placed m dart p (t ++ rest) (t' ++ rest)
@@ -152,7 +152,7 @@ placed_rest {m} law dart l p t t' rest fits out = record {
   where
     here : (x : ℕ) (b : Bool) → among x (ring (turn m) dart) ≡ b → get_or (t' ++ rest) x [] ≡ cond (among x (ring (turn m) dart)) p (get_or (t ++ rest) x [])
     here x true e =
-        let low : x < m.n = ring-inside (vertex_rounds law) dart x l e in
+        let low : x < m.n = ring_inside (vertex_rounds law) dart x l e in
         rest_left t' rest x (omega (arith, out.long)) ∙ out.here x ∙ ap (λ b. cond b p (get_or t x [])) e ∙ ap (λ b. cond b p (get_or (t ++ rest) x [])) (sym e)
     here x false e =
         rest_same t t' rest x out.long (out.here x ∙ ap (λ b. cond b p (get_or t x [])) e) ∙ ap (λ b. cond b p (get_or (t ++ rest) x [])) (sym e)
@@ -170,12 +170,12 @@ place_accepted d slack w t t' len dart p long law yes' out R rest faith =
     let low : dart < w.carrier.n = ltb-true _ _ parts.1 in
     subst (λ S. Faithful d slack S w (t' ++ rest))
     (sym (cond-true (may_reach dart R.carrier.n len) (after_place R dart p) R (ap (λ n. may_reach dart n len) (sym faith.carried.n) ∙ yes')))
-    (place-keeps law faith dart p low (placed_rest law dart low p t t' rest (omega arith) out))
+    (place_keeps law faith dart p low (placed_rest law dart low p t t' rest (omega arith) out))
 
 module _ {S A X P Q : Type 0} (k : Ghosts S) (kd : Kind A X P Q) where
-  pub split-no : (w : Workpiece S) (t : List X) (r : Result (Unit {0}) WorkFault) → may_split (work k w).splits (work k w).carrier.n (length t) ≡ false → r ≡ split_answer (work k w).splits (work k w).carrier.n (length t)
+  pub split_no : (w : Workpiece S) (t : List X) (r : Result (Unit {0}) WorkFault) → may_split (work k w).splits (work k w).carrier.n (length t) ≡ false → r ≡ split_answer (work k w).splits (work k w).carrier.n (length t)
       → SplitDone k kd w t r w t
-  split-no w t r no' answer = record {
+  split_no w t r no' answer = record {
     answer = answer;
     held = refl;
     accepted = λ yes'. absurd (both_ways _ no' yes');
@@ -184,11 +184,11 @@ module _ {S A X P Q : Type 0} (k : Ghosts S) (kd : Kind A X P Q) where
     told = split_told kd.numbers kd.width kd.slack (work k w) (map (place kd) t) (length t) r answer;
   }
 
-  pub split-yes : (w w' : Workpiece S) (t t' : List X) (r : Result (Unit {0}) WorkFault) → Lawful (work k w).carrier → Lawful (work k w').carrier
+  pub split_yes : (w w' : Workpiece S) (t t' : List X) (r : Result (Unit {0}) WorkFault) → Lawful (work k w).carrier → Lawful (work k w').carrier
       → may_split (work k w).splits (work k w).carrier.n (length t) ≡ true → r ≡ split_answer (work k w).splits (work k w).carrier.n (length t)
       → opened_skin w' ≡ opened_skin w → Next 1 0 (split (work k w).carrier) (work k w) (work k w') → Split (work k w).carrier.n (map (place kd) t) (map (place kd) t')
       → SplitDone k kd w t r w' t'
-  split-yes w w' t t' r law law' yes' answer held next out = record {
+  split_yes w w' t t' r law law' yes' answer held next out = record {
     answer = answer;
     held = held;
     accepted = λ _. (next, out);
@@ -197,9 +197,9 @@ module _ {S A X P Q : Type 0} (k : Ghosts S) (kd : Kind A X P Q) where
     told = split_told kd.numbers kd.width kd.slack (work k w) (map (place kd) t) (length t) r answer;
   }
 
-  pub place-no : (dart : ℕ) (p : Point) (w : Workpiece S) (t : List X) (r : Result (Unit {0}) WorkFault) → may_reach dart (work k w).carrier.n (length t) ≡ false → r ≡ reach_answer tt (work k w).carrier.n dart (length t)
+  pub place_no : (dart : ℕ) (p : Point) (w : Workpiece S) (t : List X) (r : Result (Unit {0}) WorkFault) → may_reach dart (work k w).carrier.n (length t) ≡ false → r ≡ reach_answer tt (work k w).carrier.n dart (length t)
       → PlaceDone k kd dart p w t r w t
-  place-no dart p w t r no' answer = record {
+  place_no dart p w t r no' answer = record {
     answer = answer;
     same = refl;
     accepted = λ yes'. absurd (both_ways _ no' yes');
@@ -208,10 +208,10 @@ module _ {S A X P Q : Type 0} (k : Ghosts S) (kd : Kind A X P Q) where
     told = place_told kd.numbers kd.width kd.slack (work k w) (map (place kd) t) (length t) dart p r answer;
   }
 
-  pub place-yes : (dart : ℕ) (p : Point) (w : Workpiece S) (t t' : List X) (r : Result (Unit {0}) WorkFault) → Lawful (work k w).carrier
+  pub place_yes : (dart : ℕ) (p : Point) (w : Workpiece S) (t t' : List X) (r : Result (Unit {0}) WorkFault) → Lawful (work k w).carrier
       → may_reach dart (work k w).carrier.n (length t) ≡ true → r ≡ reach_answer tt (work k w).carrier.n dart (length t)
       → Placed (work k w).carrier dart p (map (place kd) t) (map (place kd) t') → PlaceDone k kd dart p w t r w t'
-  place-yes dart p w t t' r law yes' answer out = record {
+  place_yes dart p w t t' r law yes' answer out = record {
     answer = answer;
     same = refl;
     accepted = λ _. out;
@@ -275,9 +275,9 @@ count_ok m len c e = go (leb m.n len) e
     go false e = let z : ◌≡◌ {A = ℕ} 0 1 = cc in absurd (omega arith)
 
 module _ {S A X P Q : Type 0} (k : Ghosts S) (kd : Kind A X P Q) where
-  pub count-done : (w : Workpiece S) (t : List X) (r : Result Counts WorkFault) → Lawful (work k w).carrier
+  pub count_done : (w : Workpiece S) (t : List X) (r : Result Counts WorkFault) → Lawful (work k w).carrier
       → r ≡ count_answer (work k w).carrier (length t) → CountDone k kd w t r
-  count-done w t r law answer = record {
+  count_done w t r law answer = record {
     answer = answer;
     told = λ R rest faith.
         let F : ℕ → Counts → Result Counts WorkFault = λ n c. cond (leb n (length t)) (Ok c) (Err (Short n)) in

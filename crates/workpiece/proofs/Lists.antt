@@ -7,7 +7,7 @@ use Rattle.std.proofs.lemmas.List.{same_lists, get_or-map, length-map}
 use Rattle.std.proofs.lemmas.Bool.{lt-ltb, cond-true, or_left, or_right, eq-eqb}
 use Rattle.mesh.specs.Mesh.{times, ring, among}
 use Rattle.mesh.proofs.Rings.{orbit, ring_orbit, ring_back, times_zero}
-use Rattle.mesh.proofs.Rounds.{Rounds, period, period-next, ring-inside, times_first}
+use Rattle.mesh.proofs.Rounds.{Rounds, period, period_next, ring_inside, times_first}
 use Rattle.point.specs.Points.{Point, coordinate, total, totals, one_more, distance, Each, Between, KindLaws}
 use Rattle.point.specs.Listed.{totals_at}
 use Rattle.workpiece.specs.Reckoning.{factorial, common}
@@ -47,7 +47,7 @@ each_among P (x ∷ xs) e =
     (e x (or_left (eqb x x) (among x xs) (eq-eqb x x refl)), each_among P xs (λ y t. e y (or_right (eqb y x) (among y xs) t)))
 
 pub ring_below : {n : ℕ} {f : ℕ → ℕ} → Rounds n f → (h : ℕ) → h < n → Each (λ d. d < n) (ring f h)
-ring_below {n} {f} r h l = each_among (λ d. d < n) (ring f h) (λ x t. ring-inside r h x l t)
+ring_below {n} {f} r h l = each_among (λ d. d < n) (ring f h) (λ x t. ring_inside r h x l t)
 
 -- two functions that agree on some darts
 pub same_map : {X : Type 0} (u v : ℕ → X) (xs : List ℕ) → ((x : ℕ) → among x xs ≡ true → u x ≡ v x) → map u xs ≡ map v xs
@@ -71,7 +71,7 @@ total_turned x (suc k) f c e =
 -- a ring has one total, whichever of its darts it is taken from
 pub total_next : {n : ℕ} {f : ℕ → ℕ} → Rounds n f → (x : ℕ → ℤ) (h : ℕ) → h < n → total (map x (ring f (f h))) ≡ total (map x (ring f h))
 total_next {n} {f} r x h l =
-    ap (λ ds. total (map x ds)) (ring_orbit f (f h)) ∙ ap (λ k. total (map x (orbit k f (f h)))) (period-next r h l)
+    ap (λ ds. total (map x ds)) (ring_orbit f (f h)) ∙ ap (λ k. total (map x (orbit k f (f h)))) (period_next r h l)
     ∙ total_turned x (period f h) f h (ring_back f h (r.short h l)) ∙ ap (λ ds. total (map x ds)) (sym (ring_orbit f h))
 
 -- ---- the laws of a kind, over places
@@ -86,8 +86,8 @@ module _ {X P : Type 0} (numbers : P → Point) (meant : X → P) where
   gather [] e = ([], refl)
   gather (p ∷ ps) e = let r = gather ps e.1 in (meant e.0.0 ∷ r.0, ap₂ (λ x xs. x ∷ xs) e.0.1 r.1)
 
-  pub place-laws : {d slack : ℕ} {mean : ℕ → List ℤ → P} → KindLaws d slack numbers mean → PlaceLaws (λ r. numbers (meant r)) d slack (λ k ts. numbers (mean k ts))
-  place-laws {d} {slack} {mean} law = record {
+  pub place_laws : {d slack : ℕ} {mean : ℕ → List ℤ → P} → KindLaws d slack numbers mean → PlaceLaws (λ r. numbers (meant r)) d slack (λ k ts. numbers (mean k ts))
+  place_laws {d} {slack} {mean} law = record {
     near = λ ps e s f i li.
         let g = gather ps e in
         let n : length g.0 ≡ length ps = sym (length-map g.0 numbers) ∙ ap length g.1 in

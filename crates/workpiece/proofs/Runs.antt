@@ -45,25 +45,25 @@ module _ {S A X P Q : Type 0} (k : Ghosts S) (kd : Kind A X P Q) where
       (subst (λ u. Faithful kd.width kd.slack R (work k w) (map (place kd) u ++ rest)) (sym et) faith)
 
   -- the law, carried on by whichever call an action makes
-  acts-keep : (x : Action P) (w : Workpiece S) (t : List X) (a : Answer P) (w' : Workpiece S) (t' : List X) → Acts k kd x w t a w' t'
+  acts_keep : (x : Action P) (w : Workpiece S) (t : List X) (a : Answer P) (w' : Workpiece S) (t' : List X) → Acts k kd x w t a w' t'
       → Keeps kd.width kd.slack (act kd.numbers (length t) x) (work k w) (map (place kd) t) (work k w') (map (place kd) t')
-  acts-keep Ac.Split w t a w' t' e = e.2.faithful
-  acts-keep Ac.Average w t a w' t' e = e.2.faithful
-  acts-keep (Ac.Place dart p) w t a w' t' e = e.2.faithful
-  acts-keep (Ac.Read dart) w t a w' t' e = unchanged w t w' t' e.3 e.4
-  acts-keep Ac.Count w t a w' t' e = unchanged w t w' t' e.3 e.4
+  acts_keep Ac.Split w t a w' t' e = e.2.faithful
+  acts_keep Ac.Average w t a w' t' e = e.2.faithful
+  acts_keep (Ac.Place dart p) w t a w' t' e = e.2.faithful
+  acts_keep (Ac.Read dart) w t a w' t' e = unchanged w t w' t' e.3 e.4
+  acts_keep Ac.Count w t a w' t' e = unchanged w t w' t' e.3 e.4
 
-  acts-tell : (x : Action P) (w : Workpiece S) (t : List X) (a : Answer P) (w' : Workpiece S) (t' : List X) → Acts k kd x w t a w' t'
+  acts_tell : (x : Action P) (w : Workpiece S) (t : List X) (a : Answer P) (w' : Workpiece S) (t' : List X) → Acts k kd x w t a w' t'
       → Tells kd.numbers kd.width kd.slack (act kd.numbers (length t) x) a (work k w) (map (place kd) t)
-  acts-tell Ac.Split w t a w' t' e R rest faith = subst (Right kd.numbers kd.width kd.slack R (Call.split (length t))) (sym e.1) (e.2.told R rest faith)
-  acts-tell Ac.Average w t a w' t' e R rest faith = subst (Right kd.numbers kd.width kd.slack R (Call.average (length t))) (sym e.1) (e.2.told R rest faith)
-  acts-tell (Ac.Place dart p) w t a w' t' e R rest faith = subst (Right kd.numbers kd.width kd.slack R (Call.place (length t) dart (kd.numbers p))) (sym e.1) (e.2.told R rest faith)
-  acts-tell (Ac.Read dart) w t a w' t' e R rest faith = subst (Right kd.numbers kd.width kd.slack R (Call.read (length t) dart)) (sym e.1) (e.2.told R rest faith)
-  acts-tell Ac.Count w t a w' t' e R rest faith = subst (Right kd.numbers kd.width kd.slack R (Call.count (length t))) (sym e.1) (e.2.told R rest faith)
+  acts_tell Ac.Split w t a w' t' e R rest faith = subst (Right kd.numbers kd.width kd.slack R (Call.split (length t))) (sym e.1) (e.2.told R rest faith)
+  acts_tell Ac.Average w t a w' t' e R rest faith = subst (Right kd.numbers kd.width kd.slack R (Call.average (length t))) (sym e.1) (e.2.told R rest faith)
+  acts_tell (Ac.Place dart p) w t a w' t' e R rest faith = subst (Right kd.numbers kd.width kd.slack R (Call.place (length t) dart (kd.numbers p))) (sym e.1) (e.2.told R rest faith)
+  acts_tell (Ac.Read dart) w t a w' t' e R rest faith = subst (Right kd.numbers kd.width kd.slack R (Call.read (length t) dart)) (sym e.1) (e.2.told R rest faith)
+  acts_tell Ac.Count w t a w' t' e R rest faith = subst (Right kd.numbers kd.width kd.slack R (Call.count (length t))) (sym e.1) (e.2.told R rest faith)
 
-  whole-step : (s : Step P) (w w' : Workpiece S) (t front : List X) (a : Answer P)
+  whole_step : (s : Step P) (w w' : Workpiece S) (t front : List X) (a : Answer P)
       → Acts k kd s.action w (take (min s.places (length t)) t) a w' front → StepDone k kd s w t a w' (front ++ drop (min s.places (length t)) t)
-  whole-step s w w' t front a acts =
+  whole_step s w w' t front a acts =
       let n : ℕ = min s.places (length t) in
       let long : length (take n t) ≡ n = omega (arith, length-take n t) in
       record {
@@ -72,23 +72,23 @@ module _ {S A X P Q : Type 0} (k : Ghosts S) (kd : Kind A X P Q) where
         table = refl;
         faithful = front_keeps (place kd) kd.width kd.slack (call_of kd.numbers (length t) s) (work k w) (work k w') n t front
             (subst (λ j. Keeps kd.width kd.slack (act kd.numbers j s.action) (work k w) (map (place kd) (take n t)) (work k w') (map (place kd) front)) long
-            (acts-keep s.action w (take n t) a w' front acts));
+            (acts_keep s.action w (take n t) a w' front acts));
         told = front_tells kd.numbers (place kd) kd.width kd.slack (call_of kd.numbers (length t) s) (work k w) n t a
             (subst (λ j. Tells kd.numbers kd.width kd.slack (act kd.numbers j s.action) a (work k w) (map (place kd) (take n t))) long
-            (acts-tell s.action w (take n t) a w' front acts));
+            (acts_tell s.action w (take n t) a w' front acts));
       }
 
-  pub step-done : (s : Step P) (x : Action P) (w w' : Workpiece S) (n : ℕ) (t front : List X) (a : Answer P)
+  pub step_done : (s : Step P) (x : Action P) (w w' : Workpiece S) (n : ℕ) (t front : List X) (a : Answer P)
       → n ≡ min s.places (length t) → s.action ≡ x → Acts k kd x w (take n t) a w' front → StepDone k kd s w t a w' (front ++ drop n t)
-  step-done s x w w' n t front a e is acts =
+  step_done s x w w' n t front a e is acts =
       subst (λ j. StepDone k kd s w t a w' (front ++ drop j t)) (sym e)
-      (whole-step s w w' t front a (subst (λ y. Acts k kd y w (take (min s.places (length t)) t) a w' front) (sym is)
+      (whole_step s w w' t front a (subst (λ y. Acts k kd y w (take (min s.places (length t)) t) a w' front) (sym is)
       (subst (λ j. Acts k kd x w (take j t) a w' front) e acts)))
 
   -- a step that leaves its part of the table as it was
-  pub step-looked : (s : Step P) (x : Action P) (w : Workpiece S) (n : ℕ) (t : List X) (a : Answer P)
+  pub step_looked : (s : Step P) (x : Action P) (w : Workpiece S) (n : ℕ) (t : List X) (a : Answer P)
       → n ≡ min s.places (length t) → s.action ≡ x → Acts k kd x w (take n t) a w (take n t) → StepDone k kd s w t a w t
-  step-looked s x w n t a e is acts = subst (StepDone k kd s w t a w) (take-append-drop n t) (step-done s x w w n t (take n t) a e is acts)
+  step_looked s x w n t a e is acts = subst (StepDone k kd s w t a w) (take-append-drop n t) (step_done s x w w n t (take n t) a e is acts)
 
 -- ---- steps in a row
 steps_push : (R : Reckoning) (cs : List Call) (c : Call) → steps R (cs ++ c ∷ []) ≡ step (steps R cs) c
@@ -116,12 +116,12 @@ module _ {S A X P Q : Type 0} (k : Ghosts S) (kd : Kind A X P Q) where
   chain_more (x ∷ ss) s w w' w'' t t' t'' answers a c d =
       (c.0, c.1 ++ a ∷ [], c.2, c.3, ap (λ xs. xs ++ a ∷ []) c.4, c.5, chain_more ss s c.2 w' w'' c.3 t' t'' c.1 a c.6 d)
 
-  pub ran-none : (w : Workpiece S) (t : List X) → Ran k kd [] w t [] w t
-  ran-none w t = record { chain = (refl, refl, refl); long = refl; faithful = λ R rest f. f; told = λ R rest f. refl }
+  pub ran_none : (w : Workpiece S) (t : List X) → Ran k kd [] w t [] w t
+  ran_none w t = record { chain = (refl, refl, refl); long = refl; faithful = λ R rest f. f; told = λ R rest f. refl }
 
-  pub ran-more : {ss : List (Step P)} {s : Step P} {w w' w'' : Workpiece S} {t t' t'' : List X} {answers : List (Answer P)} {a : Answer P}
+  pub ran_more : {ss : List (Step P)} {s : Step P} {w w' w'' : Workpiece S} {t t' t'' : List X} {answers : List (Answer P)} {a : Answer P}
       → Ran k kd ss w t answers w' t' → length t'' ≡ length t' → StepDone k kd s w' t' a w'' t'' → Ran k kd (ss ++ s ∷ []) w t (answers ++ a ∷ []) w'' t''
-  ran-more {ss} {s} {w} {w'} {w''} {t} {t'} {t''} {answers} {a} ran long one =
+  ran_more {ss} {s} {w} {w'} {w''} {t} {t'} {t''} {answers} {a} ran long one =
       let f : Step P → Call = call_of kd.numbers (length t) in
       let calls : map f (ss ++ s ∷ []) ≡ map f ss ++ f s ∷ [] = map-append f ss (s ∷ []) in
       let keeps = subst (λ n. Keeps kd.width kd.slack (call_of kd.numbers n s) (work k w') (map (place kd) t') (work k w'') (map (place kd) t'')) ran.long one.faithful in

@@ -6,9 +6,9 @@ use Rattle.mesh.specs.Mesh.{Mesh, turn, ring, among, dual, quad, Same, Lawful}
 use Rattle.mesh.specs.Count.{split}
 use Rattle.mesh.proofs.Rings.{ring_agree, times_zero, times_suc}
 use Rattle.mesh.proofs.DualLaws.{turn_below}
-use Rattle.mesh.proofs.QuadLaws.{quad-lawful, four, next0, next1, next2, next3}
-use Rattle.mesh.proofs.Same.{same_refl, same_trans, same_turn, same-dual, same-quad}
-use Rattle.mesh.proofs.Figures.{figure_same, figure-split}
+use Rattle.mesh.proofs.QuadLaws.{quad_lawful, four, next0, next1, next2, next3}
+use Rattle.mesh.proofs.Same.{same_refl, same_trans, same_turn, same_dual, same_quad}
+use Rattle.mesh.proofs.Figures.{figure_same, figure_split}
 use Rattle.mesh.proofs.Rounds.{vertex_rounds, among_next, keeps}
 use Rattle.point.specs.Points.{Point, coordinate, distance, Each, Between}
 use Rattle.workpiece.specs.Reckoning.{Reckoning, common, opening, after_split, after_place}
@@ -20,9 +20,9 @@ module _ {d slack : ℕ} {R : Reckoning} {w : Work} {before : List Point} (law :
   low : (h : ℕ) → h < R.carrier.n → h < w.carrier.n
   low h l = subst (λ n. h < n) (sym faith.carried.n) l
 
-  pub split-keeps : {w' : Work} {after : List Point} → Lawful w'.carrier → Next 1 0 (split w.carrier) w w' → 4 * w.carrier.n ≤ 1048576 → 4 * w.carrier.n ≤ length before
+  pub split_keeps : {w' : Work} {after : List Point} → Lawful w'.carrier → Next 1 0 (split w.carrier) w w' → 4 * w.carrier.n ≤ 1048576 → 4 * w.carrier.n ≤ length before
       → Split w.carrier.n before after → Faithful d slack (after_split R) w' after
-  split-keeps {w'} {after} law' next few fits out = record {
+  split_keeps {w'} {after} law' next few fits out = record {
     carried = whole;
     split_so = next.split_so ∙ ap (λ a. a + 1) faith.split_so;
     averaged_so = next.averaged_so ∙ add-zero w.averages ∙ faith.averaged_so;
@@ -31,7 +31,7 @@ module _ {d slack : ℕ} {R : Reckoning} {w : Work} {before : List Point} (law :
         (sym (here x l)) (faith.near (x / 4) i (quarter x l) li);
     rings = λ x k l. keeps (N) (turn (dual (quad R.carrier))) (λ y. get_or after y []) below one k x l;
     inside = λ x i l li lo hi e. subst (Between lo hi i) (sym (here x l)) (faith.inside (x / 4) i (quarter x l) li lo hi e);
-    figured = sym (figure_same law' whole) ∙ figure_same law' next.carried ∙ figure-split w.carrier law (omega arith) ∙ figure_same law faith.carried ∙ faith.figured;
+    figured = sym (figure_same law' whole) ∙ figure_same law' next.carried ∙ figure_split w.carrier law (omega arith) ∙ figure_same law faith.carried ∙ faith.figured;
   }
     where
       N : ℕ
@@ -44,7 +44,7 @@ module _ {d slack : ℕ} {R : Reckoning} {w : Work} {before : List Point} (law :
       all = cond-true (leb R.carrier.n 262144) (4 * R.carrier.n) 0 (le-leb R.carrier.n 262144 small)
 
       whole : Same w'.carrier (dual (quad R.carrier))
-      whole = same_trans next.carried (same-dual (quad w.carrier) (quad R.carrier) (quad-lawful w.carrier law) (same-quad w.carrier R.carrier law faith.carried))
+      whole = same_trans next.carried (same_dual (quad w.carrier) (quad R.carrier) (quad_lawful w.carrier law) (same_quad w.carrier R.carrier law faith.carried))
 
       quarter : (x : ℕ) → x < N → x / 4 < R.carrier.n
       quarter x l = let k : x < 4 * R.carrier.n = subst (λ y. x < y) all l in omega arith
@@ -73,9 +73,9 @@ module _ {d slack : ℕ} {R : Reckoning} {w : Work} {before : List Point} (law :
       one x l =
           here (turn (dual (quad R.carrier)) x) (below x l) ∙ ap (λ y. get_or before (y / 4) []) (turned x l) ∙ ap (λ y. get_or before y []) (around x l).1 ∙ sym (here x l)
 
-  pub place-keeps : {after : List Point} (dart : ℕ) (p : Point) → dart < w.carrier.n → Placed w.carrier dart p before after
+  pub place_keeps : {after : List Point} (dart : ℕ) (p : Point) → dart < w.carrier.n → Placed w.carrier dart p before after
       → Faithful d slack (after_place R dart p) w after
-  place-keeps {after} dart p within out = record {
+  place_keeps {after} dart p within out = record {
     carried = faith.carried;
     split_so = faith.split_so;
     averaged_so = faith.averaged_so;
@@ -108,8 +108,8 @@ module _ {d slack : ℕ} {R : Reckoning} {w : Work} {before : List Point} (law :
       st : (h : ℕ) → h < R.carrier.n → turn R.carrier h ≡ turn w.carrier h
       st h l = sym (same_turn w.carrier R.carrier law faith.carried h (low h l))
 
-      step-one : (h : ℕ) → h < R.carrier.n → get_or before (turn R.carrier h) [] ≡ get_or before h []
-      step-one h l = ap (λ y. get_or before y []) (ap (turn R.carrier) (sym (times_zero (turn R.carrier) h)) ∙ sym (times_suc 0 (turn R.carrier) h)) ∙ faith.rings h 1 l
+      step_one : (h : ℕ) → h < R.carrier.n → get_or before (turn R.carrier h) [] ≡ get_or before h []
+      step_one h l = ap (λ y. get_or before y []) (ap (turn R.carrier) (sym (times_zero (turn R.carrier) h)) ∙ sym (times_suc 0 (turn R.carrier) h)) ∙ faith.rings h 1 l
 
       below : (h : ℕ) → h < R.carrier.n → turn R.carrier h < R.carrier.n
       below h l = subst (λ x. x < R.carrier.n) (sym (st h l)) (high (turn w.carrier h) (turn_below w.carrier law h (low h l)))
@@ -118,7 +118,7 @@ module _ {d slack : ℕ} {R : Reckoning} {w : Work} {before : List Point} (law :
       one h l =
           ap (λ y. get_or after y []) (st h l) ∙ out.here (turn w.carrier h)
           ∙ ap (λ b. cond b p (get_or before (turn w.carrier h) [])) (among_next (vertex_rounds law) h dart (low h l) within)
-          ∙ ap (λ q. cond (among h (ring (turn w.carrier) dart)) p q) (ap (λ y. get_or before y []) (sym (st h l)) ∙ step-one h l)
+          ∙ ap (λ q. cond (among h (ring (turn w.carrier) dart)) p q) (ap (λ y. get_or before y []) (sym (st h l)) ∙ step_one h l)
           ∙ sym (out.here h)
 
 -- a fresh workpiece is faithful

@@ -3,8 +3,8 @@ ghost use Rattle.std.specs.Prelude.{◌≡◌, ℕ, ◌+◌, ◌<◌};
 ghost use Rattle.mesh.specs.Mesh.{Mesh, Same, dual, flipped};
 ghost use Rattle.mesh.specs.Count.{split};
 ghost use Rattle.mesh.specs.Rungs.{level};
-ghost use Rattle.mesh.proofs.RungLaws.{level-lawful};
-ghost use Rattle.mesh.proofs.Same.{flipped-lawful};
+ghost use Rattle.mesh.proofs.RungLaws.{level_lawful};
+ghost use Rattle.mesh.proofs.Same.{flipped_lawful};
 ghost use Rattle.skin.specs.Skins.{mesh};
 ghost use Rattle.workpiece.specs.Carriers.{carried};
 
@@ -77,7 +77,7 @@ impl<S: Skin> Skin for Carrier<S> {
 
     ghost twin = { λ c. (flipped c.dual (level c.ladder.count c.ladder.bits (mesh S.Skin c.ladder.base))).twin };
 
-    ghost lawful = { λ c. flipped-lawful c.dual (level c.ladder.count c.ladder.bits (mesh S.Skin c.ladder.base)) (level-lawful c.ladder.count c.ladder.bits (mesh S.Skin c.ladder.base) (S.Skin.lawful c.ladder.base)) };
+    ghost lawful = { λ c. flipped_lawful c.dual (level c.ladder.count c.ladder.bits (mesh S.Skin c.ladder.base)) (level_lawful c.ladder.count c.ladder.bits (mesh S.Skin c.ladder.base) (S.Skin.lawful c.ladder.base)) };
 
     fn n(&self) -> u32 {
         self.ladder.n()

@@ -10,14 +10,14 @@ use Rattle.mesh.specs.Mesh.{Mesh, Lawful, turn, ring, times}
 use Rattle.mesh.specs.Count.{leads, rings, vertices}
 use Rattle.mesh.proofs.Rings.{on_steps, on_sym, ring_at, ring_pos, ring_same}
 use Rattle.mesh.proofs.Leads.{decides_leads}
-use Rattle.mesh.proofs.Ranks.{rank_below, rank-every}
+use Rattle.mesh.proofs.Ranks.{rank_below, rank_every}
 use Rattle.sheet.specs.Sheet.{Sheet, corners_of, corner_count, PointIn}
 use Rattle.point.specs.declared.solid.SolidRecord.{SolidRecord}
 use Rattle.writer.specs.Points.{origin, meant, point_at}
 use Rattle.writer.specs.Listing.{leaders, lead, vertex_of, corners_from, sheet_of}
 use Rattle.writer.specs.Drawn.{Drawn, corner_at, start}
 use Rattle.writer.proofs.Leaders.{leaders_at, leaders_count, lead_on, lead_down, lead_lead, lead_leads, lead_short}
-use Rattle.writer.proofs.Limits.{vertex-below, meant_same}
+use Rattle.writer.proofs.Limits.{vertex_below, meant_same}
 
 -- a count that goes on
 counting_append : (a j k : ℕ) → range_with_len a (j + k) ≡ range_with_len a j ++ range_with_len (a + j) k
@@ -77,16 +77,16 @@ module _ (s : Sheet) (m : Mesh) (l : Lawful m) (table : List SolidRecord) (D : D
   abbrev Named : ℕ → Type 0
   Named k = (h : ℕ) → h < k → h < m.n → leads (turn m) h ≡ true → corner_at s h ≡ rings (turn m) h
 
-  leader-named : (k : ℕ) → Named k
-  leader-named zero h b c e = absurd (omega arith)
-  leader-named (suc k) h b c e =
-      ⊎_elim (λ low. absurd (taken (leader-named k) low)) (λ ge. ⊎_elim (λ high. absurd (skipped (leader-named k) high)) (λ le. omega arith) (cases_lt (rings (turn m) h) (corner_at s h)))
+  leader_named : (k : ℕ) → Named k
+  leader_named zero h b c e = absurd (omega arith)
+  leader_named (suc k) h b c e =
+      ⊎_elim (λ low. absurd (taken (leader_named k) low)) (λ ge. ⊎_elim (λ high. absurd (skipped (leader_named k) high)) (λ le. omega arith) (cases_lt (rings (turn m) h) (corner_at s h)))
       (cases_lt (corner_at s h) (rings (turn m) h))
     where
       -- the number was given to an earlier vertex
       taken : Named k → corner_at s h < rings (turn m) h → ⊥
       taken before low =
-          let q = rank-every (leads (turn m)) h (corner_at s h) low in
+          let q = rank_every (leads (turn m)) h (corner_at s h) low in
           let y = q.0 in
           let same : corner_at s h ≡ corner_at s y = sym (before y (omega (arith, q.1)) (omega (arith, q.1)) q.2 ∙ q.3) in
           let o = D.one_ring h y c (omega (arith, q.1)) same in
@@ -116,7 +116,7 @@ module _ (s : Sheet) (m : Mesh) (l : Lawful m) (table : List SolidRecord) (D : D
       let o = lead_on f h sh in
       let x = lead f h in
       let down : x ≤ h = lead_down f h sh in
-      sym (leader-named m.n x (omega arith) (omega arith) (lead_leads f x (lead_short f h sh) (lead_lead f h sh)))
+      sym (leader_named m.n x (omega arith) (omega arith) (lead_leads f x (lead_short f h sh) (lead_lead f h sh)))
       ∙ ap (corner_at s) (sym o.2) ∙ D.one_vertex h o.0 b
 
   -- as many vertices as points
@@ -125,17 +125,17 @@ module _ (s : Sheet) (m : Mesh) (l : Lawful m) (table : List SolidRecord) (D : D
       ⊎_elim
       (λ few.
       let u = D.used (vertices m) few in
-      absurd (omega (arith, vertex-below m l u.0 u.1, named u.0 u.1, u.2)))
+      absurd (omega (arith, vertex_below m l u.0 u.1, named u.0 u.1, u.2)))
       (λ ge. ⊎_elim
       (λ more.
-      let q = rank-every (leads (turn m)) m.n (length s.points) more in
-      absurd (omega (arith, leader-named m.n q.0 q.1 q.1 q.2, q.3, D.known q.0 q.1)))
+      let q = rank_every (leads (turn m)) m.n (length s.points) more in
+      absurd (omega (arith, leader_named m.n q.0 q.1 q.1 q.2, q.3, D.known q.0 q.1)))
       (λ le. omega arith)
       (cases_lt (length s.points) (vertices m)))
       (cases_lt (vertices m) (length s.points))
 
-  points-again : map (point_at table) (leaders (turn m) m.n) ≡ s.points
-  points-again =
+  points_again : map (point_at table) (leaders (turn m) m.n) ≡ s.points
+  points_again =
       fill_by_all given (map (point_at table) (leaders (turn m) m.n)) (length s.points) origin long at
       ∙ sym (fill_by_all given s.points (length s.points) origin refl (λ k b. refl))
     where
@@ -147,19 +147,19 @@ module _ (s : Sheet) (m : Mesh) (l : Lawful m) (table : List SolidRecord) (D : D
 
       at : (k : ℕ) → k < length s.points → get_or (map (point_at table) (leaders (turn m) m.n)) k origin ≡ given k
       at k b =
-          let q = rank-every (leads (turn m)) m.n k (omega (arith, as_many)) in
+          let q = rank_every (leads (turn m)) m.n k (omega (arith, as_many)) in
           let y = q.0 in
           let i = leaders_at (turn m) y q.2 m.n q.1 in
           let here : get_or (leaders (turn m) m.n) k 0 ≡ y = ap (λ x. get_or (leaders (turn m) m.n) x 0) (sym q.3) ∙ i.here in
           get_or-map (point_at table) (leaders (turn m) m.n) k 0 origin (omega (arith, i.inside, q.3))
           ∙ ap (point_at table) here ∙ ap meant (D.points y q.1)
           ∙ meant_same (given (corner_at s y)) (All-get_or PointIn s.points (corner_at s y) origin (D.known y q.1) D.ranged.points_in)
-          ∙ ap given (leader-named m.n y q.1 q.1 q.2 ∙ q.3)
+          ∙ ap given (leader_named m.n y q.1 q.1 q.2 ∙ q.3)
 
   -- the corners of a face that stands after others
-  corners-again : (pre : List (List ℕ)) (vs : List ℕ) (fs : List (List ℕ)) → s.faces ≡ pre ++ vs ∷ fs →
+  corners_again : (pre : List (List ℕ)) (vs : List ℕ) (fs : List (List ℕ)) → s.faces ≡ pre ++ vs ∷ fs →
       ring m.next (corner_count pre) ≡ range_with_len (corner_count pre) (length vs) → corners_from m false (corner_count pre) ≡ vs
-  corners-again pre vs fs e r =
+  corners_again pre vs fs e r =
       ap (map (vertex_of m)) r
       ∙ fill_by_all given (map (vertex_of m) (range_with_len a (length vs))) (length vs) 0 (length-map-range_with_len (vertex_of m) a (length vs)) at
       ∙ sym (fill_by_all given vs (length vs) 0 refl (λ k b. refl))
@@ -182,17 +182,17 @@ module _ (s : Sheet) (m : Mesh) (l : Lawful m) (table : List SolidRecord) (D : D
           ∙ ap (λ x. get_or x (a + k) 0) all ∙ get_or-append-add (corners_of pre) (vs ++ corners_of fs) k 0
           ∙ get_or_append_left vs (corners_of fs) 0 k b
 
-  faces-from : (pre fs : List (List ℕ)) → s.faces ≡ pre ++ fs →
+  faces_from : (pre fs : List (List ℕ)) → s.faces ≡ pre ++ fs →
       map (corners_from m false) (filter (leads m.next) (range_with_len (corner_count pre) (corner_count fs))) ≡ fs
-  faces-from pre [] e = refl
-  faces-from pre (vs ∷ fs) e =
+  faces_from pre [] e = refl
+  faces_from pre (vs ∷ fs) e =
       ap (λ x. map g (filter p (range_with_len a x))) (length-append vs (corners_of fs))
       ∙ ap (λ x. map g (filter p x)) (counting_append a (length vs) (corner_count fs))
       ∙ ap (map g) (filter-append p (range_with_len a (length vs)) (range_with_len (a + length vs) (corner_count fs)))
       ∙ ap (λ x. map g (x ++ filter p (range_with_len (a + length vs) (corner_count fs)))) (run_leader m.next a (length vs) (l.faces_short a below) r)
-      ∙ ap (λ x. x ∷ map g (filter p (range_with_len (a + length vs) (corner_count fs)))) (corners-again pre vs fs e r)
+      ∙ ap (λ x. x ∷ map g (filter p (range_with_len (a + length vs) (corner_count fs)))) (corners_again pre vs fs e r)
       ∙ ap (λ x. vs ∷ map g (filter p (range_with_len x (corner_count fs)))) next_start
-      ∙ ap (λ x. vs ∷ x) (faces-from (pre ++ vs ∷ []) fs (e ∙ sym (append_assoc pre (vs ∷ []) fs)))
+      ∙ ap (λ x. vs ∷ x) (faces_from (pre ++ vs ∷ []) fs (e ∙ sym (append_assoc pre (vs ∷ []) fs)))
     where
       a : ℕ
       a = corner_count pre
@@ -226,12 +226,12 @@ module _ (s : Sheet) (m : Mesh) (l : Lawful m) (table : List SolidRecord) (D : D
       next_start : a + length vs ≡ corner_count (pre ++ vs ∷ [])
       next_start = sym (ap length (sym (flat_map_more (λ x. x) [] pre vs)) ∙ length-append (corners_of pre) vs)
 
-  faces-again : map (corners_from m false) (leaders m.next m.n) ≡ s.faces
+  faces_again : map (corners_from m false) (leaders m.next m.n) ≡ s.faces
   unfolding leaders
-  faces-again = ap (λ x. map (corners_from m false) (filter (leads m.next) (range_with_len 0 x))) D.darts ∙ faces-from [] s.faces refl
+  faces_again = ap (λ x. map (corners_from m false) (filter (leads m.next) (range_with_len 0 x))) D.darts ∙ faces_from [] s.faces refl
 
   again : sheet_of m table false ≡ s
-  again = λ i. record { points = points-again i; faces = faces-again i }
+  again = λ i. record { points = points_again i; faces = faces_again i }
 
 pub same : (m : Mesh) → Lawful m → (table : List SolidRecord) (backward : Bool) (s : Sheet) → Drawn s m table → backward ≡ false → sheet_of m table backward ≡ s
 same m l table backward s D e = ap (sheet_of m table) e ∙ again s m l table D

@@ -12,10 +12,10 @@ use Rattle.sheet.specs.Sheet.{point_text, face_text, sheet_text, PointIn, FaceIn
 use Rattle.point.specs.declared.solid.SolidRecord.{SolidRecord}
 use Rattle.writer.specs.Points.{origin, point_at}
 use Rattle.writer.specs.Listing.{corners_from, sheet_of, bytes_needed}
-use Rattle.writer.proofs.ByLine.{each, each_none, each-yes, each-no, corner_text, parts, parts_are, corners_long}
+use Rattle.writer.proofs.ByLine.{each, each_none, each_yes, each_no, corner_text, parts, parts_are, corners_long}
 use Rattle.writer.proofs.Numbering.{way_long}
-use Rattle.writer.proofs.Shares.{led, rings-all}
-use Rattle.writer.proofs.Limits.{point_in, face-in}
+use Rattle.writer.proofs.Shares.{led, rings_all}
+use Rattle.writer.proofs.Limits.{point_in, face_in}
 
 seven : (n : ℕ) → n ≤ 1048576 → length (decimal n) ≤ 7
 seven n b = length-decimal-le 7 n (omega arith) (let q : n < 10000000 = omega arith in q) (omega arith)
@@ -48,21 +48,21 @@ face_long vs i =
     omega (arith, length-append (decimal (length vs)) (flat_map corner_text vs ++ 10 ∷ []), length-append (flat_map corner_text vs) (10 ∷ []))
 
 module _ {B : Type 0} (T : B → List ℕ) (g : ℕ → B) (f : ℕ → ℕ) where
-  each-thirty : (n : ℕ) → ((h : ℕ) → h < n → length (T (g h)) ≤ 30) → length (each T g f n) ≤ 30 * rings f n
-  each-thirty zero b = omega (arith, ap length (each_none T g f))
-  each-thirty (suc n) b =
-      let i : length (each T g f n) ≤ 30 * rings f n = each-thirty n (λ h l. b h (omega arith)) in
+  each_thirty : (n : ℕ) → ((h : ℕ) → h < n → length (T (g h)) ≤ 30) → length (each T g f n) ≤ 30 * rings f n
+  each_thirty zero b = omega (arith, ap length (each_none T g f))
+  each_thirty (suc n) b =
+      let i : length (each T g f n) ≤ 30 * rings f n = each_thirty n (λ h l. b h (omega arith)) in
       subst (λ x. length (each T g f x) ≤ 30 * rings f x) (add-one n)
       (⊎_elim
-      (λ e. omega (arith, b n (omega arith), ap length (each-yes T g f n e), length-append (each T g f n) (T (g n)), count_yes (leads f) n (rings f n) refl e))
-      (λ e. omega (arith, ap length (each-no T g f n e), count_no (leads f) n (rings f n) refl e))
+      (λ e. omega (arith, b n (omega arith), ap length (each_yes T g f n e), length-append (each T g f n) (T (g n)), count_yes (leads f) n (rings f n) refl e))
+      (λ e. omega (arith, ap length (each_no T g f n e), count_no (leads f) n (rings f n) refl e))
       (cases_Bool (leads f n)))
 
-  each-ring : (n : ℕ) → ((h : ℕ) → h < n → length (T (g h)) ≤ 3 + 8 * length (ring f h)) → length (each T g f n) ≤ 3 * rings f n + 8 * sum (led f) n
+  each_ring : (n : ℕ) → ((h : ℕ) → h < n → length (T (g h)) ≤ 3 + 8 * length (ring f h)) → length (each T g f n) ≤ 3 * rings f n + 8 * sum (led f) n
   unfolding sum
-  each-ring zero b = omega (arith, ap length (each_none T g f))
-  each-ring (suc n) b =
-      let i : length (each T g f n) ≤ 3 * rings f n + 8 * sum (led f) n = each-ring n (λ h l. b h (omega arith)) in
+  each_ring zero b = omega (arith, ap length (each_none T g f))
+  each_ring (suc n) b =
+      let i : length (each T g f n) ≤ 3 * rings f n + 8 * sum (led f) n = each_ring n (λ h l. b h (omega arith)) in
       let s : suc n ≡ n + 1 = sym (add-one n) in
       let a : length (each T g f (suc n)) ≡ length (each T g f (n + 1)) = ap (λ x. length (each T g f x)) s in
       let c : rings f (suc n) ≡ rings f (n + 1) = ap (rings f) s in
@@ -70,12 +70,12 @@ module _ {B : Type 0} (T : B → List ℕ) (g : ℕ → B) (f : ℕ → ℕ) whe
       (λ e. omega (
         arith,
         b n (omega arith),
-        ap length (each-yes T g f n e),
+        ap length (each_yes T g f n e),
         length-append (each T g f n) (T (g n)),
         count_yes (leads f) n (rings f n) refl e,
         cond-true (leads f n) (length (ring f n)) 0 e,
       ))
-      (λ e. omega (arith, ap length (each-no T g f n e), count_no (leads f) n (rings f n) refl e, cond-false (leads f n) (length (ring f n)) 0 e))
+      (λ e. omega (arith, ap length (each_no T g f n e), count_no (leads f) n (rings f n) refl e, cond-false (leads f n) (length (ring f n)) 0 e))
       (cases_Bool (leads f n))
 
   -- all lines are as long as the rings, where each is
@@ -86,29 +86,29 @@ module _ {B : Type 0} (T : B → List ℕ) (g : ℕ → B) (f : ℕ → ℕ) whe
       let i : length (each T g f n) ≡ sum (led f) n = each_all n (λ h l. b h (omega arith)) in
       let a : length (each T g f (suc n)) ≡ length (each T g f (n + 1)) = ap (λ x. length (each T g f x)) (sym (add-one n)) in
       ⊎_elim
-      (λ e. omega (arith, b n (omega arith), ap length (each-yes T g f n e), length-append (each T g f n) (T (g n)), cond-true (leads f n) (length (ring f n)) 0 e))
-      (λ e. omega (arith, ap length (each-no T g f n e), cond-false (leads f n) (length (ring f n)) 0 e))
+      (λ e. omega (arith, b n (omega arith), ap length (each_yes T g f n e), length-append (each T g f n) (T (g n)), cond-true (leads f n) (length (ring f n)) 0 e))
+      (λ e. omega (arith, ap length (each_no T g f n e), cond-false (leads f n) (length (ring f n)) 0 e))
       (cases_Bool (leads f n))
 
 parts_long : (v f : ℕ) (ps fs : List ℕ) → length (parts v ps f fs) ≡ 19 + length (decimal v) + length ps + length (decimal f) + length fs
 parts_long v f ps fs = simp length-append (omega arith)
 
 module _ (m : Mesh) (l : Lawful m) where
-  pub faces-all : sum (led m.next) m.n ≡ m.n
-  faces-all = rings-all m.n m.next m.prev l.next_below l.prev_below l.prev_next l.next_prev l.faces_short
+  pub faces_all : sum (led m.next) m.n ≡ m.n
+  faces_all = rings_all m.n m.next m.prev l.next_below l.prev_below l.prev_next l.next_prev l.faces_short
 
   -- the corners of a face are as many as its darts
-  pub face-corners : (backward : Bool) (h : ℕ) → h < m.n → length (corners_from m backward h) ≡ length (ring m.next h)
-  face-corners backward h b = corners_long m backward h ∙ way_long m l backward h b
+  pub face_corners : (backward : Bool) (h : ℕ) → h < m.n → length (corners_from m backward h) ≡ length (ring m.next h)
+  face_corners backward h b = corners_long m backward h ∙ way_long m l backward h b
 
-  pub text-bound : (table : List SolidRecord) (backward : Bool) → length (sheet_text (sheet_of m table backward)) ≤ bytes_needed m
-  text-bound table backward =
+  pub text_bound : (table : List SolidRecord) (backward : Bool) → length (sheet_text (sheet_of m table backward)) ≤ bytes_needed m
+  text_bound table backward =
       let ps = each point_text (point_at table) (turn m) m.n in
       let fs = each face_text (corners_from m backward) m.next m.n in
       let e : length (parts (vertices m) ps (faces m) fs) ≡ length (sheet_text (sheet_of m table backward)) = ap length (parts_are m table backward (vertices m) (faces m) refl refl) in
-      let a : length ps ≤ 30 * vertices m = each-thirty point_text (point_at table) (turn m) m.n (λ h b. point_long (point_at table h) (point_in (get_or table h origin))) in
+      let a : length ps ≤ 30 * vertices m = each_thirty point_text (point_at table) (turn m) m.n (λ h b. point_long (point_at table h) (point_in (get_or table h origin))) in
       let c : length fs ≤ 3 * faces m + 8 * sum (led m.next) m.n =
-      each-ring face_text (corners_from m backward) m.next m.n (λ h b. omega (arith, face_long (corners_from m backward h) (face-in m l backward h b), face-corners backward h b)) in
+      each_ring face_text (corners_from m backward) m.next m.n (λ h b. omega (arith, face_long (corners_from m backward h) (face_in m l backward h b), face_corners backward h b)) in
       let v = seven (vertices m) (omega (arith, count_le (leads (turn m)) m.n, l.few)) in
       let f = seven (faces m) (omega (arith, count_le (leads m.next) m.n, l.few)) in
-      omega (arith, parts_long (vertices m) (faces m) ps fs, faces-all)
+      omega (arith, parts_long (vertices m) (faces m) ps fs, faces_all)

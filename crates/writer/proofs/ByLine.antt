@@ -28,40 +28,40 @@ module _ {B : Type 0} (T : B → List ℕ) (g : ℕ → B) (f : ℕ → ℕ) whe
   pub each_none : each 0 ≡ []
   each_none = ap (λ x. flat_map T (map g x)) (leaders_none f)
 
-  pub each-yes : (h : ℕ) → leads f h ≡ true → each (h + 1) ≡ each h ++ T (g h)
-  each-yes h e =
+  pub each_yes : (h : ℕ) → leads f h ≡ true → each (h + 1) ≡ each h ++ T (g h)
+  each_yes h e =
       ap (λ x. flat_map T (map g x)) (leaders_yes f h e)
       ∙ ap (flat_map T) (map_push g (leaders f h) h)
       ∙ sym (flat_map_more T [] (map g (leaders f h)) (g h))
 
-  pub each-no : (h : ℕ) → leads f h ≡ false → each (h + 1) ≡ each h
-  each-no h e = ap (λ x. flat_map T (map g x)) (leaders_no f h e)
+  pub each_no : (h : ℕ) → leads f h ≡ false → each (h + 1) ≡ each h
+  each_no h e = ap (λ x. flat_map T (map g x)) (leaders_no f h e)
 
   each_step : (h : ℕ) → length (each h) ≤ length (each (h + 1))
   each_step h =
       ⊎_elim
-      (λ e. omega (arith, ap length (each-yes h e), length-append (each h) (T (g h))))
-      (λ e. omega (arith, ap length (each-no h e)))
+      (λ e. omega (arith, ap length (each_yes h e), length-append (each h) (T (g h))))
+      (λ e. omega (arith, ap length (each_no h e)))
       (cases_Bool (leads f h))
 
-  each-le : (h n : ℕ) → h ≤ n → length (each h) ≤ length (each n)
-  each-le h zero b = let e : h ≡ 0 = omega arith in omega (arith, ap (λ x. length (each x)) e)
-  each-le h (suc n) b =
+  each_le : (h n : ℕ) → h ≤ n → length (each h) ≤ length (each n)
+  each_le h zero b = let e : h ≡ 0 = omega arith in omega (arith, ap (λ x. length (each x)) e)
+  each_le h (suc n) b =
       ⊎_elim
       (λ e. omega (arith, ap (λ x. length (each x)) e))
-      (λ ne. omega (arith, each-le h n (omega arith), each_step n, ap (λ x. length (each x)) (add-one n)))
+      (λ ne. omega (arith, each_le h n (omega arith), each_step n, ap (λ x. length (each x)) (add-one n)))
       (cases_eq h (suc n))
 
   -- room for one line more
-  pub each-room : (at p h n : ℕ) (was is : List ℕ) → h < n → leads f h ≡ true → Put at p (each h) was is → Room at (each n) was → Room p (T (g h)) is
-  each-room at p h n was is b e v r =
-      next_room v (record { fits = omega (arith, each-le (h + 1) n (omega arith), ap length (each-yes h e), r.fits) })
+  pub each_room : (at p h n : ℕ) (was is : List ℕ) → h < n → leads f h ≡ true → Put at p (each h) was is → Room at (each n) was → Room p (T (g h)) is
+  each_room at p h n was is b e v r =
+      next_room v (record { fits = omega (arith, each_le (h + 1) n (omega arith), ap length (each_yes h e), r.fits) })
 
-  pub each-put : (at p q h : ℕ) (was mid is : List ℕ) → leads f h ≡ true → Put at p (each h) was mid → Put p q (T (g h)) mid is → Put at q (each (h + 1)) was is
-  each-put at p q h was mid is e v w = subst (λ x. Put at q x was is) (sym (each-yes h e)) (and_then v w)
+  pub each_put : (at p q h : ℕ) (was mid is : List ℕ) → leads f h ≡ true → Put at p (each h) was mid → Put p q (T (g h)) mid is → Put at q (each (h + 1)) was is
+  each_put at p q h was mid is e v w = subst (λ x. Put at q x was is) (sym (each_yes h e)) (and_then v w)
 
-  pub each-skip : (at p h : ℕ) (was is : List ℕ) → leads f h ≡ false → Put at p (each h) was is → Put at p (each (h + 1)) was is
-  each-skip at p h was is e v = subst (λ x. Put at p x was is) (sym (each-no h e)) v
+  pub each_skip : (at p h : ℕ) (was is : List ℕ) → leads f h ≡ false → Put at p (each h) was is → Put at p (each (h + 1)) was is
+  each_skip at p h was is e v = subst (λ x. Put at p x was is) (sym (each_no h e)) v
 
 pub put_moved : {at q q' : ℕ} {w was is is' : List ℕ} → q' ≡ q → is' ≡ is → Put at q w was is → Put at q' w was is'
 put_moved {at} {q} {q'} {w} {was} {is} {is'} e d v = subst (λ x. Put at x w was is') (sym e) (subst (λ x. Put at q w was x) (sym d) v)

@@ -55,11 +55,11 @@ leaders_all f n P a =
     subst P e (a i l)))
 
 module _ (m : Mesh) (l : Lawful m) where
-  pub vertex-below : (h : ℕ) → h < m.n → vertex_of m h < vertices m
-  vertex-below h b = omega (arith, (lead_at (turn m) m.n h l.vertices_short b).inside, leaders_count (turn m) m.n)
+  pub vertex_below : (h : ℕ) → h < m.n → vertex_of m h < vertices m
+  vertex_below h b = omega (arith, (lead_at (turn m) m.n h l.vertices_short b).inside, leaders_count (turn m) m.n)
 
-  pub face-in : (backward : Bool) (h : ℕ) → h < m.n → FaceIn (corners_from m backward h)
-  face-in backward h b =
+  pub face_in : (backward : Bool) (h : ℕ) → h < m.n → FaceIn (corners_from m backward h)
+  face_in backward h b =
       let f = way m backward in
       let r = way_rounds m l backward in
       let k : length (corners_from m backward h) ≡ length (ring f h) = length-map (ring f h) (vertex_of m) in (
@@ -69,7 +69,7 @@ module _ (m : Mesh) (l : Lawful m) where
             (All-from_get_or (λ d. vertex_of m d ≤ 1048575) (ring f h) 0
             (λ i q.
             let d : get_or (ring f h) i 0 < m.n = subst (λ x. x < m.n) (sym (ring_at f h i q)) (times_keeps m.n f r.below i h b) in
-            omega (arith, vertex-below (get_or (ring f h) i 0) d, count_le (leads (turn m)) m.n, l.few))),
+            omega (arith, vertex_below (get_or (ring f h) i 0) d, count_le (leads (turn m)) m.n, l.few))),
       )
 
   pub ranged : (table : List SolidRecord) (backward : Bool) → Ranged (sheet_of m table backward)
@@ -78,5 +78,5 @@ module _ (m : Mesh) (l : Lawful m) where
         few_points = omega (arith, length-map (leaders (turn m) m.n) (point_at table), leaders_count (turn m) m.n, count_le (leads (turn m)) m.n, l.few);
         few_faces = omega (arith, length-map (leaders m.next m.n) (corners_from m backward), leaders_count m.next m.n, count_le (leads m.next) m.n, l.few);
         points_in = All-map PointIn (point_at table) (leaders (turn m) m.n) (leaders_all (turn m) m.n (λ h. PointIn (point_at table h)) (λ h b. point_in (get_or table h origin)));
-        faces_in = All-map FaceIn (corners_from m backward) (leaders m.next m.n) (leaders_all m.next m.n (λ h. FaceIn (corners_from m backward h)) (face-in backward));
+        faces_in = All-map FaceIn (corners_from m backward) (leaders m.next m.n) (leaders_all m.next m.n (λ h. FaceIn (corners_from m backward h)) (face_in backward));
       }

@@ -5,7 +5,7 @@ use Rattle.std.proofs.lemmas.Bool.{cases_Bool, cases_eq}
 use Rattle.std.proofs.lemmas.List.FromFn.{get_or-map-range_with_len, map-range_with_len_more}
 use Rattle.mesh.specs.Mesh.{Mesh, Lawful, turn, times, ring}
 use Rattle.mesh.specs.Count.{leads, rings}
-use Rattle.mesh.proofs.Rings.{On, on_steps, times_zero, ring_bound, inverse-long}
+use Rattle.mesh.proofs.Rings.{On, on_steps, times_zero, ring_bound, inverse_long}
 use Rattle.mesh.proofs.Rounds.{Rounds, period, face_rounds}
 use Rattle.mesh.proofs.Leads.{decides_leads}
 use Rattle.writer.specs.Listing.{vertex_of, way}
@@ -14,7 +14,7 @@ use Rattle.writer.proofs.Leaders.{lead_same, leads_lead}
 
 -- a face has as many darts followed backward
 pub way_long : (m : Mesh) → Lawful m → (backward : Bool) (h : ℕ) → h < m.n → length (ring (way m backward) h) ≡ length (ring m.next h)
-way_long m l true h b = inverse-long m.n m.next m.prev l.next_below l.prev_below l.prev_next l.next_prev h b (l.faces_short h b)
+way_long m l true h b = inverse_long m.n m.next m.prev l.next_below l.prev_below l.prev_next l.next_prev h b (l.faces_short h b)
 way_long m l false h b = refl
 
 pub way_rounds : (m : Mesh) → Lawful m → (backward : Bool) → Rounds m.n (way m backward)

@@ -97,8 +97,8 @@ module _ (n : ℕ) (f g : ℕ → ℕ) (keeps : Keeps n f) (keeps' : Keeps n g) 
         back_there = times_undo n f g keeps back i;
       }
 
-  pub rings-all : sum (led f) n ≡ n
-  rings-all =
+  pub rings_all : sum (led f) n ≡ n
+  rings_all =
       sum_same n _ _ (λ h b. marks f h (short h b)) ∙ sum_swap n 64 (mark f)
       ∙ sum_same 64 _ _ (λ i l. sum_moved n (λ h. mark f h i) (times i f) (times i g) (swaps i))
       ∙ sym (sum_swap n 64 (λ h i. mark f (times i f h) i))

@@ -24,8 +24,8 @@ module _ (m : Mesh) (l : Lawful m) (table : List SolidRecord) (backward : Bool) 
   pub whole : (r : Result ℕ WriteFault) → Outcome m table backward was is r → Writes m table backward was is r
   whole r o = record { outcome = o; told = told m l table backward; read_back = back r o; same = same m l table backward }
 
-  pub written-whole : (k : ℕ) → m.n ≤ length table → bytes_needed m ≤ length was → Put 0 k (sheet_text (sheet_of m table backward)) was is → Writes m table backward was is (Ok k)
-  written-whole k a b v =
+  pub written_whole : (k : ℕ) → m.n ≤ length table → bytes_needed m ≤ length was → Put 0 k (sheet_text (sheet_of m table backward)) was is → Writes m table backward was is (Ok k)
+  written_whole k a b v =
       let w = sheet_text (sheet_of m table backward) in
       whole (Ok k)
       (a, b, v.place ∙ zero-add (length w), v.text ∙ ap (λ x. w ++ drop x was) (zero-add (length w)))

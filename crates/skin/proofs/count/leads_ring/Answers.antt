@@ -3,7 +3,7 @@ use Rattle.std.proofs.lemmas.Bool.{le-leb, lt-ltb, eq-eqb, ne_eqb, cases_eq, cas
 use Rattle.mesh.specs.Mesh.{times, floor}
 use Rattle.mesh.specs.Count.{leads}
 use Rattle.mesh.proofs.Rings.{orbit, ring_orbit, ring_pos}
-use Rattle.mesh.proofs.Rounds.{period, floor_snoc, not_round, all-round, walked, walked_one}
+use Rattle.mesh.proofs.Rounds.{period, floor_snoc, not_round, all_round, walked, walked_one}
 use Rattle.mesh.proofs.Leads.{decides_leads}
 use Rattle.skin.specs.Skins.{mesh}
 use Rattle.skin.specs.Counts.{along}
@@ -74,7 +74,7 @@ returns g c =
     let inside : ltb h m.n ≡ true = lt-ltb h m.n inv.0 in
     ⊎_elim
     (λ (e : c.loop-c.c ≡ h).
-    let round = all-round r h c.loop-c.k c.loop-c.c inv.2 inv.3 inv.4 e in
+    let round = all_round r h c.loop-c.k c.loop-c.c inv.2 inv.3 inv.4 e in
     let lead : leads f h ≡ true = ap (floor h) (ring_orbit f h ∙ ap (λ j. orbit j f h) (sym round)) ∙ inv.5 in
     rw (eq-eqb c.loop-c.c h e, inside, lead) refl)
     (λ (e : c.loop-c.c ≡ h → ⊥).

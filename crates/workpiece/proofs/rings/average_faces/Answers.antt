@@ -4,7 +4,7 @@ use Rattle.mesh.specs.Count.{rings, leads}
 use Rattle.mesh.proofs.Leads.{count_none, count_yes, count_no}
 use Rattle.skin.specs.Skins.{mesh}
 use Rattle.point.specs.Kinds.{place, mean_point}
-use Rattle.workpiece.proofs.Faces.{Part, part_none, part-more, part-skip, part-all}
+use Rattle.workpiece.proofs.Faces.{Part, part_none, part_more, part_skip, part_all}
 use Rattle.workpiece.proofs.rings.average_faces.Goals as goal
 use Rattle.workpiece.proofs.rings.average_faces.Goals.{in-Some, in-default}
 
@@ -29,13 +29,13 @@ loop-h-preserved g c =
           (let first = w.in-Some.ensures.0 in (
             omega (arith, w.rings-is, inv.0),
             w.rings-is ∙ count_yes (leads m.next) c.loop-h.h c.loop-h.rings inv.1 first,
-            subst P (sym w.table-is) (part-more law c.loop-h.h low first inv.2 w.store-mean.ensures),
+            subst P (sym w.table-is) (part_more law c.loop-h.h low first inv.2 w.store-mean.ensures),
           ))
       | in-default w ↦
           (let first = w.in-default.ensures in (
             omega (arith, w.rings-is, inv.0),
             w.rings-is ∙ count_no (leads m.next) c.loop-h.h c.loop-h.rings inv.1 first,
-            subst P (sym w.table-is) (part-skip law c.loop-h.h low first inv.2),
+            subst P (sym w.table-is) (part_skip law c.loop-h.h low first inv.2),
           ))
     ]
 
@@ -46,5 +46,5 @@ returns g c =
     let all : c.loop-h.h ≡ m.n = omega (arith, c.loop-h-test.false, c.n-h-end.ensures, c.loop-h.auto.h-end) in
     record {
       count = c.loop-h.invariant.1 ∙ ap (rings m.next) all;
-      places = part-all law (subst (λ a. Part g.K.PointKind.width (mean_point g.K.PointKind) m (map (place g.K.PointKind) c.args.table.now) a (map (place g.K.PointKind) c.loop-h.table)) all c.loop-h.invariant.2);
+      places = part_all law (subst (λ a. Part g.K.PointKind.width (mean_point g.K.PointKind) m (map (place g.K.PointKind) c.args.table.now) a (map (place g.K.PointKind) c.loop-h.table)) all c.loop-h.invariant.2);
     }

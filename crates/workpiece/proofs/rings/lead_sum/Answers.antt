@@ -4,7 +4,7 @@ use Rattle.std.proofs.lemmas.Bool.{cases_Bool, and_from, le-leb}
 use Rattle.mesh.specs.Mesh.{floor, ring}
 use Rattle.mesh.specs.Count.{leads}
 use Rattle.mesh.proofs.Rings.{times_zero, orbit, ring_orbit, ring_pos}
-use Rattle.mesh.proofs.Rounds.{period, face_rounds, floor_snoc, not_round, all-round, walked, walked_one}
+use Rattle.mesh.proofs.Rounds.{period, face_rounds, floor_snoc, not_round, all_round, walked, walked_one}
 use Rattle.mesh.proofs.Leads.{decides_leads}
 use Rattle.skin.specs.Skins.{mesh}
 use Rattle.point.specs.Points.{Point, totals}
@@ -77,7 +77,7 @@ returns g c =
     let at : ℕ → Point = λ x. get_or (map (place g.K.PointKind) c.args.table.now) x [] in
     let h : ℕ = c.args.h in
     let inv = c.loop-c.invariant in
-    let e = all-round (face_rounds {m = m} law) h c.loop-c.k c.loop-c.c inv.1 inv.2 inv.3 c.loop-c-test.false in (
+    let e = all_round (face_rounds {m = m} law) h c.loop-c.k c.loop-c.c inv.1 inv.2 inv.3 c.loop-c-test.false in (
       ap (floor h) (ring_orbit m.next h) ∙ ap (λ k. floor h (orbit k m.next h)) (sym e) ∙ inv.4,
       inv.5 ∙ e,
       inv.6 ∙ ap (λ k. totals g.K.PointKind.width (map at (orbit k m.next h))) e ∙ ap (λ ds. totals g.K.PointKind.width (map at ds)) (sym (ring_orbit m.next h)),

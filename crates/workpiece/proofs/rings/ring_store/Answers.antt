@@ -3,7 +3,7 @@ use Rattle.std.proofs.Common.{ℕ, ◌<◌, ◌≤◌, cond, [], map, length, ge
 use Rattle.std.proofs.lemmas.List.{length-set, length-map}
 use Rattle.mesh.specs.Mesh.{among}
 use Rattle.mesh.proofs.Rings.{orbit, ring_orbit, ring_pos}
-use Rattle.mesh.proofs.Rounds.{period, not_round, all-round, walked, walked_one}
+use Rattle.mesh.proofs.Rounds.{period, not_round, all_round, walked, walked_one}
 use Rattle.skin.specs.Skins.{mesh}
 use Rattle.skin.specs.Counts.{along}
 use Rattle.skin.proofs.Alongs.{along_rounds}
@@ -56,7 +56,7 @@ returns g c =
     let m = mesh g.S.Skin c.args.skin.now in
     let r = along_rounds c.args.ring m (g.S.Skin.lawful c.args.skin.now) in
     let inv = c.loop-c.invariant in
-    let e = all-round r c.args.h c.loop-c.k c.loop-c.c inv.1 inv.2 inv.3 c.loop-c-test.false in
+    let e = all_round r c.args.h c.loop-c.k c.loop-c.c inv.1 inv.2 inv.3 c.loop-c-test.false in
     record {
       long = length-map c.loop-c.table (place g.K.PointKind) ∙ c.loop-c.auto.table ∙ length-set c.args.table.now c.args.h c.args.p ∙ sym (length-map c.args.table.now (place g.K.PointKind));
       here = λ x.

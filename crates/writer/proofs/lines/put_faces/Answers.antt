@@ -5,7 +5,7 @@ use Rattle.sheet.specs.Sheet.{face_text}
 use Rattle.writer.specs.Buffer.{Put}
 use Rattle.writer.specs.Listing.{corners_from}
 use Rattle.writer.proofs.Writes.{put_none}
-use Rattle.writer.proofs.ByLine.{each, each_none, each-room, each-put, each-skip, put_moved, leads_told}
+use Rattle.writer.proofs.ByLine.{each, each_none, each_room, each_put, each_skip, put_moved, leads_told}
 use Rattle.writer.proofs.lines.put_faces.Goals as goal
 use Rattle.writer.proofs.lines.put_faces.Goals.{then-leads-ring, else-leads-ring}
 
@@ -22,7 +22,7 @@ put-face-p-requires g c =
     record {
       dart = n;
       numbered = c.requires.numbered;
-      room = each-room face_text (corners_from m c.args.backward) m.next _ _ _ _ _ _ n
+      room = each_room face_text (corners_from m c.args.backward) m.next _ _ _ _ _ _ n
           (leads_told _ _ true (leads m.next c.loop-h.h) _ n c.leads-ring.ensures c.if-leads-ring.true) c.loop-h.invariant c.requires.room;
     }
 
@@ -33,10 +33,10 @@ loop-h-preserved g c =
     elim c.if-leads-ring.branch [
       | then-leads-ring w ↦
           put_moved w.p-is w.buf-is
-          (each-put face_text (corners_from m c.args.backward) m.next _ _ _ _ _ _ _ (leads_told _ _ true (leads m.next c.loop-h.h) _ n c.leads-ring.ensures w.if-leads-ring.true) c.loop-h.invariant w.put-face-p.ensures)
+          (each_put face_text (corners_from m c.args.backward) m.next _ _ _ _ _ _ _ (leads_told _ _ true (leads m.next c.loop-h.h) _ n c.leads-ring.ensures w.if-leads-ring.true) c.loop-h.invariant w.put-face-p.ensures)
       | else-leads-ring w ↦
           put_moved w.p-is w.buf-is
-          (each-skip face_text (corners_from m c.args.backward) m.next _ _ _ _ _ (leads_told _ _ false (leads m.next c.loop-h.h) _ n c.leads-ring.ensures w.if-leads-ring.false) c.loop-h.invariant)
+          (each_skip face_text (corners_from m c.args.backward) m.next _ _ _ _ _ (leads_told _ _ false (leads m.next c.loop-h.h) _ n c.leads-ring.ensures w.if-leads-ring.false) c.loop-h.invariant)
     ]
 
 pub returns : goal.returns

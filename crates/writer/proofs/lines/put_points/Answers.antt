@@ -6,7 +6,7 @@ use Rattle.sheet.specs.Sheet.{point_text}
 use Rattle.writer.specs.Buffer.{Put}
 use Rattle.writer.specs.Points.{point_at}
 use Rattle.writer.proofs.Writes.{put_none}
-use Rattle.writer.proofs.ByLine.{each, each_none, each-room, each-put, each-skip, put_moved, leads_told}
+use Rattle.writer.proofs.ByLine.{each, each_none, each_room, each_put, each_skip, put_moved, leads_told}
 use Rattle.writer.proofs.lines.put_points.Goals as goal
 use Rattle.writer.proofs.lines.put_points.Goals.{then-leads-ring, else-leads-ring}
 
@@ -20,7 +20,7 @@ pub put-point-p-requires : goal.put-point-p-requires
 put-point-p-requires g c =
     let f = turn (mesh g.S.Skin c.args.skin.now) in
     let n : c.loop-h.h < g.S.Skin.n c.args.skin.now = omega (arith, c.loop-h-test.true, c.n-n.ensures) in
-    each-room point_text (point_at c.args.points.now) f _ _ _ _ _ _ n
+    each_room point_text (point_at c.args.points.now) f _ _ _ _ _ _ n
     (leads_told _ _ true (leads f c.loop-h.h) _ n c.leads-ring.ensures c.if-leads-ring.true) c.loop-h.invariant c.requires.room
 
 pub loop-h-preserved : goal.loop-h-preserved
@@ -31,10 +31,10 @@ loop-h-preserved g c =
     elim c.if-leads-ring.branch [
       | then-leads-ring w ↦
           put_moved w.p-is w.buf-is
-          (each-put point_text (point_at t) f _ _ _ _ _ _ _ (leads_told _ _ true (leads f c.loop-h.h) _ n c.leads-ring.ensures w.if-leads-ring.true) c.loop-h.invariant w.put-point-p.ensures)
+          (each_put point_text (point_at t) f _ _ _ _ _ _ _ (leads_told _ _ true (leads f c.loop-h.h) _ n c.leads-ring.ensures w.if-leads-ring.true) c.loop-h.invariant w.put-point-p.ensures)
       | else-leads-ring w ↦
           put_moved w.p-is w.buf-is
-          (each-skip point_text (point_at t) f _ _ _ _ _ (leads_told _ _ false (leads f c.loop-h.h) _ n c.leads-ring.ensures w.if-leads-ring.false) c.loop-h.invariant)
+          (each_skip point_text (point_at t) f _ _ _ _ _ (leads_told _ _ false (leads f c.loop-h.h) _ n c.leads-ring.ensures w.if-leads-ring.false) c.loop-h.invariant)
     ]
 
 pub returns : goal.returns

@@ -1,6 +1,6 @@
 use Rattle.std.proofs.Common.{◌<◌, sym, subst, arith}
 use Rattle.mesh.proofs.Rings.{ring_pos}
-use Rattle.mesh.proofs.Rounds.{not_round, all-round, walked, walked_one}
+use Rattle.mesh.proofs.Rounds.{not_round, all_round, walked, walked_one}
 use Rattle.skin.specs.Skins.{mesh}
 use Rattle.writer.specs.Listing.{way}
 use Rattle.writer.proofs.Numbering.{way_rounds}
@@ -49,4 +49,4 @@ returns g c =
     let m = mesh g.S.Skin c.args.skin.now in
     let r = way_rounds m (g.S.Skin.lawful c.args.skin.now) c.args.backward in
     let i = c.loop-c.invariant in
-    all-round r c.args.h c.loop-c.k c.loop-c.c i.1 i.2 i.3 c.loop-c-test.false
+    all_round r c.args.h c.loop-c.k c.loop-c.c i.1 i.2 i.3 c.loop-c-test.false

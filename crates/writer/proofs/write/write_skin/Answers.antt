@@ -3,8 +3,8 @@ use Rattle.std.proofs.lemmas.Result.{err_from_is_err_and}
 use Rattle.skin.specs.Skins.{mesh}
 use Rattle.writer.specs.Listing.{bytes_needed}
 use Rattle.writer.specs.Outcome.{Writes}
-use Rattle.writer.proofs.Bounds.{text-bound}
-use Rattle.writer.proofs.Whole.{whole, written-whole}
+use Rattle.writer.proofs.Bounds.{text_bound}
+use Rattle.writer.proofs.Whole.{whole, written_whole}
 use Rattle.writer.proofs.write.write_skin.Goals as goal
 
 pub returns-in-err-at-least : goal.returns-in-err-at-least
@@ -35,7 +35,7 @@ put-sheet-requires g c =
       numbered = c.as-slice.ensures.value ∙ c.in-Ok.ensures;
       v-counted = v;
       f-counted = f;
-      room = record { fits = omega (arith, room, text-bound m (g.S.Skin.lawful c.args.skin.now) c.args.points.now c.args.backward) };
+      room = record { fits = omega (arith, room, text_bound m (g.S.Skin.lawful c.args.skin.now) c.args.points.now c.args.backward) };
     }
 
 pub returns-in-Ok : goal.returns-in-Ok
@@ -43,7 +43,7 @@ returns-in-Ok g c =
     let m = mesh g.S.Skin c.args.skin.now in
     let v = ap (λ x. x.vertices) c.count-counts.ensures.answer in
     let f = ap (λ x. x.faces) c.count-counts.ensures.answer in
-    written-whole m (g.S.Skin.lawful c.args.skin.now) _ _ _ _ _
+    written_whole m (g.S.Skin.lawful c.args.skin.now) _ _ _ _ _
     (omega (arith, c.in-ok-at-least.ensures, c.n-n.ensures))
     (omega (arith, c.in-ok-at-least-2.ensures, c.bytes-needed-needed.ensures, v, f, c.n-n.ensures))
     c.put-sheet.ensures

@@ -7,7 +7,7 @@ use Rattle.point.specs.Range.{InRange}
 use Rattle.point.specs.Points.{coordinate, total}
 use Rattle.point.specs.Dealing.{handle_count, row_whole, floor_of, dealt, missing}
 use Rattle.point.specs.Deals.{missing_is, missing_few, dealt_whole}
-use Rattle.point.specs.RowPoints.{ws-long, ws-in-range, mean_made, answer_shares}
+use Rattle.point.specs.RowPoints.{ws_long, ws_in_range, mean_made, answer_shares}
 use Rattle.point.proofs.Shares.{shares_alone}
 use Rattle.point.proofs.row.PullSum.mean.Goals as goal
 
@@ -46,8 +46,8 @@ invariant_of-result c =
     let h : 0 < s.count = omega arith in
     let e = weights_are s c.row_total.result c.floor_means-floors.result c.deal-weights.result h c.floor_means-floors.ensures c.row_total.ensures c.deal-weights.ensures in
     record {
-      long = ap length e ∙ ws-long s.count s.totals h s.long s.ok s.whole;
-      ok = subst (λ (ws : List ℤ). (i : ℕ) → InRange (coordinate ws i)) (sym e) (ws-in-range s.count s.totals h s.long s.ok s.whole);
+      long = ap length e ∙ ws_long s.count s.totals h s.long s.ok s.whole;
+      ok = subst (λ (ws : List ℤ). (i : ℕ) → InRange (coordinate ws i)) (sym e) (ws_in_range s.count s.totals h s.long s.ok s.whole);
       whole = ap total e ∙ dealt_whole s.count s.totals h s.whole;
     }
 

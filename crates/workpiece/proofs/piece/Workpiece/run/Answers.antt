@@ -3,7 +3,7 @@ use Rattle.std.proofs.Common.{◌≡◌, ℕ, ◌+◌, ◌<◌, ◌≤◌, [], �
 use Rattle.std.proofs.lemmas.List.{take_all, take_more, take_more_set, drop-drop, drop-set-lt}
 use Rattle.std.proofs.lemmas.Bool.{le-leb, lt-leb, cond-true, cond-false}
 use Rattle.workpiece.specs.Runs.{Ran}
-use Rattle.workpiece.proofs.Runs.{ran-none, ran-more}
+use Rattle.workpiece.proofs.Runs.{ran_none, ran_more}
 use Rattle.workpiece.proofs.piece.Workpiece.run.Goals as goal
 
 pub returns-then-answers-steps : goal.returns-then-answers-steps
@@ -17,7 +17,7 @@ returns-then-answers-steps g c =
     }
 
 pub loop-i-init : goal.loop-i-init
-loop-i-init g c = (ran-none g.S.Skin g.K.PointKind c.args.self.now c.args.table.now, refl)
+loop-i-init g c = (ran_none g.S.Skin g.K.PointKind c.args.self.now c.args.table.now, refl)
 
 pub loop-i-preserved : goal.loop-i-preserved
 loop-i-preserved g c =
@@ -30,7 +30,7 @@ loop-i-preserved g c =
     let low : i < length c.loop-i.answers = omega (arith, c.loop-i-test.true, c.loop-i.auto.answers, c.if-answers-steps.false) in
     let put : take (i + 1) c.put.new.places ≡ take i c.loop-i.answers ++ a ∷ [] =
     ap (take (i + 1)) c.put.ensures ∙ take_more_set c.loop-i.answers i a low in
-    let ran = ran-more g.S.Skin g.K.PointKind c.loop-i.invariant.0 c.make-answer.auto.table c.make-answer.ensures in (
+    let ran = ran_more g.S.Skin g.K.PointKind c.loop-i.invariant.0 c.make-answer.auto.table c.make-answer.ensures in (
       subst (λ xs. Ran g.S.Skin g.K.PointKind xs c.args.self.now c.args.table.now (take (i + 1) c.put.new.places) c.make-answer.new.self c.make-answer.new.table) (sym more)
           (subst (λ xs. Ran g.S.Skin g.K.PointKind (take i ss ++ s ∷ []) c.args.self.now c.args.table.now xs c.make-answer.new.self c.make-answer.new.table) (sym put) ran),
       ap (drop (i + 1)) c.put.ensures ∙ drop-set-lt (i + 1) c.loop-i.answers i a (omega arith)

@@ -1,14 +1,14 @@
 -- A way at the top of a ladder is a way at its foot.
-use Rattle.std.proofs.Common.{◌≡◌, ℕ, zero, suc, ◌+◌, ◌-◌, ◌*◌, ◌/◌, ◌%◌, ◌<◌, ◌≤◌, Bool, true, false, cond, leb, ◌≢◌, List, [], ◌∷◌, length, get_or, set, sym, refl, ap, ◌∙◌, subst, add-zero, arith, get_or-set_other, get_or-set_same}
-use Rattle.std.proofs.lemmas.Bool.{leb-true, cond_both, cond-true, cond-false, le-leb, lt-leb, false≢true}
-use Rattle.mesh.specs.Mesh.{Mesh, Lawful, turn, dual, quad, corner}
+use Rattle.std.proofs.Common.{◌≡◌, ℕ, zero, suc, ◌+◌, ◌-◌, ◌*◌, ◌/◌, ◌%◌, ◌<◌, ◌≤◌, Bool, true, false, cond, ◌≢◌, List, length, get_or, set, sym, refl, ap, ◌∙◌, subst, add-zero, arith, get_or-set_other, get_or-set_same}
+use Rattle.std.proofs.lemmas.Bool.{false≢true}
+use Rattle.mesh.specs.Mesh.{Mesh, Lawful, turn, dual, quad}
 use Rattle.mesh.specs.Rungs.{rung, level}
 use Rattle.skin.specs.Ways.{act, way_across, way_below, way_digit, way_stays, way_under}
 use Rattle.skin.specs.declared.ladder.Way.{Way}
 use Rattle.skin.specs.declared.ladder.Way.TheVariants.{Stay, Next, Prev, Twin, Turn, Unturn}
-use Rattle.mesh.proofs.DualLaws.{dual_lawful, turn_below}
-use Rattle.mesh.proofs.QuadLaws.{quad_lawful, next0, next1, next2, next3, prev0, prev1, prev2, prev3, twin0, twin1, twin2, twin3, turn0, turn1, turn2, turn3}
-use Rattle.mesh.proofs.RungLaws.{rung_lawful, rung_below, level_zero, level_suc, level_lawful, level_below}
+use Rattle.mesh.proofs.DualLaws.{turn_below}
+use Rattle.mesh.proofs.QuadLaws.{next0, next1, next2, next3, prev0, prev1, prev2, prev3, twin0, twin1, twin2, twin3, turn0, turn1, turn2, turn3}
+use Rattle.mesh.proofs.RungLaws.{rung_below, level_zero, level_suc, level_lawful}
 
 -- a way at a Quad
 pub act_quad : (m : Mesh) (h : ℕ) (w : Way) (j : ℕ) → j < 4 → act (quad m) w (4 * h + j) ≡ 4 * act m (way_below w j) h + way_digit w j

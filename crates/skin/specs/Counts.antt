@@ -1,5 +1,5 @@
 -- What the calls that count answer.
-use Rattle.std.specs.Prelude.{◌≡◌, ℕ, ◌*◌, ◌<◌, Bool, true, false}
+use Rattle.std.specs.Prelude.{◌≡◌, ℕ, ◌*◌, ◌<◌}
 use Rattle.mesh.specs.Mesh.{Mesh, turn}
 use Rattle.mesh.specs.Count.{vertices, edges, faces, Classes, Once}
 use Rattle.skin.specs.declared.count.Ring.{Ring}

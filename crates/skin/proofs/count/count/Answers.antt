@@ -1,4 +1,4 @@
-use Rattle.std.proofs.Common.{◌≡◌, ◌*◌, ◌/◌, sym, refl, ap, ◌∙◌, rules}
+use Rattle.std.proofs.Common.{◌*◌, ◌/◌, ap, ◌∙◌, rules}
 use Rattle.mesh.proofs.Figures.{even}
 use Rattle.mesh.proofs.Once.{once}
 use Rattle.mesh.proofs.DualLaws.{turn_below}

@@ -1,4 +1,4 @@
-use Rattle.std.proofs.Common.{refl, arith, rules}
+use Rattle.std.proofs.Common.{refl, rules}
 use Rattle.mesh.proofs.RungLaws.{level_add}
 use Rattle.skin.proofs.ladder.Ladder.add.Goals as goal
 

@@ -1,10 +1,10 @@
-use Rattle.std.proofs.Common.{◌≡◌, ℕ, suc, ◌-◌, ◌/◌, ◌%◌, ◌<◌, ◌≤◌, set, sym, refl, ap, ◌∙◌, subst, arith, length-set}
+use Rattle.std.proofs.Common.{◌≡◌, suc, ◌-◌, ◌/◌, ◌%◌, ◌<◌, set, sym, refl, ap, ◌∙◌, arith, length-set}
 use Rattle.mesh.specs.Rungs.{level}
 use Rattle.skin.specs.Skins.{mesh}
 use Rattle.skin.specs.Ways.{act, way_digit}
 use Rattle.skin.proofs.Calls.{answered, answers, never_none}
 use Rattle.mesh.proofs.RungLaws.{level_lawful, level_zero_n, level_less}
-use Rattle.skin.proofs.WayLaws.{act_below, climb, climb_none, at_foot, at_rest, up_step, up_bound, top, down_turn}
+use Rattle.skin.proofs.WayLaws.{act_below, climb, at_foot, at_rest, up_step, up_bound, top, down_turn}
 use Rattle.skin.proofs.ladder.Ladder.go.Given as given
 use Rattle.skin.proofs.ladder.Ladder.go.Goals as goal
 use Rattle.skin.proofs.ladder.Ladder.go.Goals.{Joined-i-eq0, then-i-eq0+in_ok-x, else-i-eq0, then-down-test+else-not-stays, else-down-test}

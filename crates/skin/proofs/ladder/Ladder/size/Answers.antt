@@ -1,4 +1,4 @@
-use Rattle.std.proofs.Common.{◌≡◌, sym, refl, ap, ◌∙◌, arith}
+use Rattle.std.proofs.Common.{sym, ap, ◌∙◌, arith}
 use Rattle.skin.specs.Skins.{mesh}
 use Rattle.mesh.proofs.RungLaws.{level_zero, size_more, size_none}
 use Rattle.skin.proofs.ladder.Ladder.size.Goals as goal

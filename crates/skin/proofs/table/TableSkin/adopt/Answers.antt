@@ -8,13 +8,10 @@ use Rattle.skin.proofs.Adopted.{exact}
 use Rattle.skin.proofs.table.TableSkin.adopt.Goals as goal
 
 pub invariant_of-self : goal.invariant_of-self
-invariant_of-self c = (
-  (omega arith, omega arith, omega arith),
-  (
-    ∣ lawful_from_none (tables c.args.n c.args.next.now c.args.prev.now c.args.twin.now) (omega arith) (sym c.in_default.ensures) ∣₁,
-    tt,
-  ),
-)
+invariant_of-self c = record {
+  long = (omega arith, omega arith, omega arith);
+  lawful = ∣ lawful_from_none (tables c.args.n c.args.next.now c.args.prev.now c.args.twin.now) (omega arith) (sym c.in_default.ensures) ∣₁;
+}
 
 pub returns-in-Some : goal.returns-in-Some
 returns-in-Some c =

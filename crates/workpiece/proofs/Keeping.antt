@@ -2,7 +2,7 @@
 use Rattle.std.proofs.Common.{◌≡◌, ℕ, zero, suc, ◌+◌, ◌*◌, ◌/◌, ◌^◌, ◌<◌, ◌≤◌, Bool, true, false, cond, ltb, leb, ◌⊎◌, List, [], ◌∷◌, ◌++◌, map, length, get_or, ℤ, pos, ◌*ℤ◌, Ok, Err, Result, sym, refl, ap, ◌∙◌, subst, ap₂, inl, inr, arith}
 use Rattle.std.proofs.lemmas.List.{get_or_append_left, get_or-append_right, length-append, length-map}
 use Rattle.std.proofs.lemmas.Bool.{cases_lt, both_ways, cond-true, cond-false, and_parts, leb-true, ltb-true}
-use Rattle.mesh.specs.Mesh.{Mesh, Lawful, Same, dual, ring, turn, among}
+use Rattle.mesh.specs.Mesh.{Mesh, Lawful, dual, ring, turn, among}
 use Rattle.mesh.specs.Count.{split, faces}
 use Rattle.mesh.proofs.Leads.{faces_same}
 use Rattle.skin.proofs.Counted.{counting_same}

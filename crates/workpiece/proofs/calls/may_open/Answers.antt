@@ -33,8 +33,8 @@ bounds-table-t g c =
     let turn_low : c.following-t.result < m.n = rw c.following-t.ensures (turn_below (mesh g.S.Skin c.args.skin.now) (g.S.Skin.lawful c.args.skin.now) c.loop-h.h (omega (arith, c.loop-h-test.true, c.n-n.ensures))) in
     omega (arith, turn_low, c.if-table-n.false, c.n-n.ensures)
 
-pub offset-bounds-table-t : goal.offset-bounds-table-t
-offset-bounds-table-t g c =
+pub offset_bounds-table-t : goal.offset_bounds-table-t
+offset_bounds-table-t g c =
     let m = mesh g.S.Skin c.args.skin.now in
     let turn_low : c.following-t.result < m.n = rw c.following-t.ensures (turn_below (mesh g.S.Skin c.args.skin.now) (g.S.Skin.lawful c.args.skin.now) c.loop-h.h (omega (arith, c.loop-h-test.true, c.n-n.ensures))) in
     omega (arith, turn_low, c.if-table-n.false, c.n-n.ensures)

@@ -13,7 +13,7 @@ pub returns-in-Err : goal.returns-in-Err
 returns-in-Err g c =
     let m = mesh g.S.Skin c.args.skin in
     let t = map (placing g.K.PointKind) c.args.table.now in
-    (c.open.ensures, inl (subst (MayOpen m t) c.in-Err.is c.may-open.ensures), refl, refl)
+    (c.open.ensures, inl (subst (MayOpen m t) c.in-Err.is c.may_open.ensures), refl, refl)
 
 pub returns-in-Ok : goal.returns-in-Ok
 returns-in-Ok g c =
@@ -23,7 +23,7 @@ returns-in-Ok g c =
     let m = mesh g.S.Skin c.args.skin in
     let t = map point c.args.table.now in
     let calls = map (call_of g.K.PointKind.numbers (length c.args.table.now)) c.args.steps.now in
-    let o : Openable m t = subst (MayOpen m t) c.in-default.is c.may-open.ensures in
+    let o : Openable m t = subst (MayOpen m t) c.in_default.is c.may_open.ensures in
     let fits = run_ok (length c.args.steps.now) (length c.args.answers.now) c.run.result c.in-Ok.field-0 c.run.ensures.answer c.in-Ok.is in
     let ran = c.run.ensures.accepted fits in
     let start = c.open-piece.ensures.faithful d slack t [] o in (
@@ -43,7 +43,7 @@ pub returns-in-Err-run : goal.returns-in-Err-run
 returns-in-Err-run g c =
     let m = mesh g.S.Skin c.args.skin in
     let t = map (placing g.K.PointKind) c.args.table.now in
-    let o : Openable m t = subst (MayOpen m t) c.in-default.is c.may-open.ensures in
+    let o : Openable m t = subst (MayOpen m t) c.in_default.is c.may_open.ensures in
     let short = run_err (length c.args.steps.now) (length c.args.answers.now) c.run.result c.in-Err-run.fault c.run.ensures.answer c.in-Err-run.is in
     let same = c.run.ensures.declined short.0 in
     (subst (Opened g.S.Skin c.args.skin) (sym same.0) c.open-piece.ensures, inr (o, short.0, short.1), same.1, same.2)

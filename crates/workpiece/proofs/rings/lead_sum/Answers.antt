@@ -1,7 +1,7 @@
 -- The walk round a face ring: its darts so far are h or more, and the sum is over them.
 use Rattle.std.proofs.Common.{◌≡◌, ℕ, ◌<◌, ◌≤◌, true, false, ◌&&◌, leb, [], map, get_or, sym, ap, ◌∙◌, ⊎_elim, add-one, arith, rules}
 use Rattle.std.proofs.lemmas.Bool.{cases_Bool, and_from, le-leb}
-use Rattle.mesh.specs.Mesh.{floor, ring}
+use Rattle.mesh.specs.Mesh.{floor}
 use Rattle.mesh.specs.Count.{leads}
 use Rattle.mesh.proofs.Rings.{times_zero, orbit, ring_orbit, ring_pos}
 use Rattle.mesh.proofs.Rounds.{period, face_rounds, floor_snoc, not_round, all_round, walked, walked_one}
@@ -43,8 +43,8 @@ returns-then-c-h g c =
     ⊎_elim (λ (yes' : leads m.next c.args.h ≡ true). absurd (omega (arith, d.0 yes' c.loop-c.k, c.loop-c.invariant.3, c.if-c-h.true)))
     (λ (no' : leads m.next c.args.h ≡ false). no') (cases_Bool (leads m.next c.args.h))
 
-pub overflow-add-k : goal.overflow-add-k
-overflow-add-k g c =
+pub overflow_add-k : goal.overflow_add-k
+overflow_add-k g c =
     let k : c.loop-c.k ≤ 64 = omega (arith, (g.S.Skin.lawful c.args.skin.now).faces_short c.args.h c.requires.within, c.loop-c.invariant.2) in
     search rules
 

@@ -29,8 +29,8 @@ loop-c-smaller g c =
     let r = along_rounds c.args.ring m (g.S.Skin.lawful c.args.skin.now) in
     omega (arith, (along_rounds c.args.ring m (g.S.Skin.lawful c.args.skin.now)).short c.args.h c.requires.within, not_round r c.args.h c.loop-c.k c.loop-c.c c.requires.within c.loop-c.invariant.2 c.loop-c.invariant.3 c.loop-c-test.true)
 
-pub overflow-add-k : goal.overflow-add-k
-overflow-add-k g c =
+pub overflow_add-k : goal.overflow_add-k
+overflow_add-k g c =
     let m = mesh g.S.Skin c.args.skin.now in
     let k : c.loop-c.k ≤ 64 = omega (arith, (along_rounds c.args.ring m (g.S.Skin.lawful c.args.skin.now)).short c.args.h c.requires.within, c.loop-c.invariant.2) in
     search rules

@@ -5,9 +5,9 @@ use Rattle.skin.specs.Skins.{mesh}
 use Rattle.workpiece.proofs.Flips.{flip_prev}
 use Rattle.workpiece.proofs.carrier.CarrierSkin.prev.Goals as goal
 
-pub returns-in-ok-p : goal.returns-in-ok-p
-returns-in-ok-p g c =
+pub returns-in_ok-p : goal.returns-in_ok-p
+returns-in_ok-p g c =
     let s = c.args.self.now in
     let m = mesh g.S.Skin s.ladder.base in
     flip_prev s.dual (level s.ladder.count s.ladder.bits m) (level_lawful s.ladder.count s.ladder.bits m (g.S.Skin.lawful s.ladder.base))
-    c.args.h c.in-ok-p.p _ c.if-self.true c.in-ok-p.ensures c.twin.ensures
+    c.args.h c.in_ok-p.p _ c.if-self.true c.in_ok-p.ensures c.twin.ensures

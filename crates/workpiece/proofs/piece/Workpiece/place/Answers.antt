@@ -29,7 +29,7 @@ returns g c =
     let m = carried g.S.Skin c.args.self.now.carrier in
     let fits = le-leb m.n (length c.args.table.now) (omega (arith, c.if-table-n.false, c.n-n.ensures)) in
     let low = lt-ltb c.args.dart m.n (omega (arith, c.if-dart-n.false, c.n-n.ensures)) in
-    place_yes g.S.Skin g.K.PointKind c.args.dart (g.K.PointKind.numbers c.args.point) c.args.self.now c.args.table.now c.ring-store.new.table _
+    place_yes g.S.Skin g.K.PointKind c.args.dart (g.K.PointKind.numbers c.args.point) c.args.self.now c.args.table.now c.ring_store.new.table _
     (carried_lawful g.S.Skin c.args.self.now.carrier) (and_from _ _ fits low) (sym (cond-true _ _ _ fits ∙ cond-true _ _ _ low))
-    (subst (λ p. Placed m c.args.dart p (map (placing g.K.PointKind) c.args.table.now) (map (placing g.K.PointKind) c.ring-store.new.table))
-    (ap g.K.PointKind.numbers c.store-stored.ensures) (record { long = c.ring-store.ensures.long; here = c.ring-store.ensures.here }))
+    (subst (λ p. Placed m c.args.dart p (map (placing g.K.PointKind) c.args.table.now) (map (placing g.K.PointKind) c.ring_store.new.table))
+    (ap g.K.PointKind.numbers c.store-stored.ensures) (record { long = c.ring_store.ensures.long; here = c.ring_store.ensures.here }))

@@ -10,5 +10,5 @@ loop-h-preserved g c =
     let f : ℕ → ℕ = says c.args.call (mesh g.S.Skin c.args.skin.now) in
     let x = c.unwrap.result in
     let a = unwrapped _ _ _ _ c.ask.ensures c.unwrap.ensures in
-    subst (Copy (c.loop-h.h + 1) f) (sym c.in-ok-push.ensures.items)
+    subst (Copy (c.loop-h.h + 1) f) (sym c.in_ok-push.ensures.items)
     (copy_more c.loop-h.h f (vec_items c.loop-h.entries) x c.loop-h.invariant a.1)

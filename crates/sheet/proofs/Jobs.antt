@@ -107,5 +107,5 @@ module _ (text : List ℕ) (t : Tables) (d l at : ℕ) (j : judge job_line text 
       go (Ok s) = refl
       go (Err e) = refl
 
-  pub read_job : (r : Result JobSizes TextFault) → r ≡ headed d l n → ReadsJob text t r u
-  read_job r e = told text t r u ((λ i. ((e ∙ ap (λ x. headed d l x.0) o.outcome) i, (o.outcome i).1)) ∙ sym all)
+  pub read_job_lem : (r : Result JobSizes TextFault) → r ≡ headed d l n → ReadsJob text t r u
+  read_job_lem r e = told text t r u ((λ i. ((e ∙ ap (λ x. headed d l x.0) o.outcome) i, (o.outcome i).1)) ∙ sym all)

@@ -3,4 +3,4 @@ use Rattle.sheet.proofs.Forms.{Left}
 use Rattle.sheet.proofs.judge.points_judged.Given as goal
 
 abbrev pub invariant-loop-i : goal.invariant-loop-i
-invariant-loop-i l = Left point_line l.text l.n l.at l.-i l.here
+invariant-loop-i l = Left point_line l.text l.n l.at l._i l.here

@@ -9,8 +9,8 @@ use Rattle.order.proofs.Meaning.{nan_is, below_least, above_most, Within, off, n
 use Rattle.order.proofs.scale.units.Goals as goal
 use Rattle.order.proofs.scale.units.Goals.{then-mm-via-then-mm, then-mm-via-else-mm+then-mm-2}
 
-pub returns-then-is-nan : goal.returns-then-is-nan
-returns-then-is-nan c = computed c.args.mm _ (nan_is c.args.mm (sym c.is-nan.ensures.value ∙ c.if-is-nan.true))
+pub returns-then-is_nan : goal.returns-then-is_nan
+returns-then-is_nan c = computed c.args.mm _ (nan_is c.args.mm (sym c.is_nan.ensures.value ∙ c.if-is_nan.true))
 
 pub returns-then-mm : goal.returns-then-mm
 returns-then-mm c =
@@ -26,23 +26,23 @@ cut x t b e h = ap (λ (y : Float). ne y (product x)) (sym e) ∙ h
 pub returns-then-trunc-scaled : goal.returns-then-trunc-scaled
 returns-then-trunc-scaled c =
     let x = c.args.mm in
-    let w : Within x = record { held = c.well-formed.0.1; number = sym c.if-is-nan.ensures.value; low = c.if-mm.false; high = c.if-mm-2.false } in
+    let w : Within x = record { held = c.well_formed.0.1; number = sym c.if-is_nan.ensures.value; low = c.if-mm.false; high = c.if-mm-2.false } in
     computed x _ (off x w (cut x c.trunc.result true c.trunc.ensures c.if-trunc-scaled.true))
 
 pub returns-then-scaled : goal.returns-then-scaled
 returns-then-scaled c =
     let x = c.args.mm in
-    let w : Within x = record { held = c.well-formed.0.1; number = sym c.if-is-nan.ensures.value; low = c.if-mm.false; high = c.if-mm-2.false } in
+    let w : Within x = record { held = c.well_formed.0.1; number = sym c.if-is_nan.ensures.value; low = c.if-mm.false; high = c.if-mm-2.false } in
     computed x _ (nothing x w (cut x c.trunc.result false c.trunc.ensures c.if-trunc-scaled.false) c.if-scaled.true)
 
-pub float-to-int-result : goal.float-to-int-result
-float-to-int-result c =
+pub float_to_int-result : goal.float_to_int-result
+float_to_int-result c =
     let x = c.args.mm in
-    let w : Within x = record { held = c.well-formed.0.1; number = sym c.if-is-nan.ensures.value; low = c.if-mm.false; high = c.if-mm-2.false } in
+    let w : Within x = record { held = c.well_formed.0.1; number = sym c.if-is_nan.ensures.value; low = c.if-mm.false; high = c.if-mm-2.false } in
     in_cast x w (cut x c.trunc.result false c.trunc.ensures c.if-trunc-scaled.false) c.if-scaled.false
 
 pub returns : goal.returns
 returns c =
     let x = c.args.mm in
-    let w : Within x = record { held = c.well-formed.0.1; number = sym c.if-is-nan.ensures.value; low = c.if-mm.false; high = c.if-mm-2.false } in
+    let w : Within x = record { held = c.well_formed.0.1; number = sym c.if-is_nan.ensures.value; low = c.if-mm.false; high = c.if-mm-2.false } in
     computed x _ (cast x w (cut x c.trunc.result false c.trunc.ensures c.if-trunc-scaled.false) c.if-scaled.false ∙ ap Ok (sym (through_bits (product x))))

@@ -8,7 +8,7 @@ use Rattle.mesh.proofs.Periods.{steps_few}
 use Rattle.mesh.proofs.Same.{same_lawful, same_turn, same_face}
 use Rattle.mesh.proofs.Smallest.{none_from, any_from, any_not}
 use Rattle.closing.specs.Numbering.{start, next, prev}
-use Rattle.closing.specs.Sheet.{Sheet, darts, mesh, from, to, alike, twin, odd, stray, twice, met, single, bare, comes, several, crowded}
+use Rattle.closing.specs.Sheet.{Sheet, darts, mesh, from, to, alike, odd, stray, twice, met, single, bare, comes, several, crowded}
 use Rattle.closing.specs.Edges.{Goes}
 use Rattle.closing.specs.Law.{Reaches, Skins, Closable}
 use Rattle.std.proofs.lemmas.List.FromFn.{length-range_with_len}

@@ -1,5 +1,5 @@
 use Rattle.std.proofs.Common.{◌≡◌, ℕ, ◌<◌, ◌≤◌, length, get_or}
-use Rattle.closing.specs.Numbering.{after, next}
+use Rattle.closing.specs.Numbering.{after}
 use Rattle.closing.proofs.faces.fill_face.Given as goal
 
 abbrev pub invariant-loop-h : goal.invariant-loop-h

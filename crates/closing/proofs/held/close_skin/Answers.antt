@@ -6,5 +6,5 @@ use Rattle.closing.proofs.held.close_skin.Goals as goal
 pub returns : goal.returns
 returns c =
     let s = sheet c.args.points c.args.lengths.now c.args.corners.now in
-    taken s c.args.next.now c.args.prev.now c.args.twin.now c.close.new.next c.close.new.prev c.close.new.twin c.in-ok-n.n
-    c.in-ok-n.ensures c.args.held.now c.adopt.new.self (c.adopt.ensures.taken (ap is_ok c.unwrap.ensures))
+    taken s c.args.next.now c.args.prev.now c.args.twin.now c.close.new.next c.close.new.prev c.close.new.twin c.in_ok-n.n
+    c.in_ok-n.ensures c.args.held.now c.adopt.new.self (c.adopt.ensures.taken (ap is_ok c.unwrap.ensures))

@@ -12,21 +12,21 @@ returns-then-corners-size g c = record { answer = too_short _ _ _ _ (elim c.then
 pub returns-in-Some : goal.returns-in-Some
 returns-in-Some g c = record { answer = strays _ _ _ _ (omega arith) (omega arith) _ c.in-Some.ensures; taken = λ e. absurd (false≢true e); rings = λ e. absurd (false≢true e); declined = λ _. refl }
 
-pub offset-bounds-points-corners : goal.offset-bounds-points-corners
-offset-bounds-points-corners g c = let k = known c.args.n _ c.args.corners.now c.in-default.ensures c.loop-h.h (omega arith) in omega arith
+pub offset_bounds-points-corners : goal.offset_bounds-points-corners
+offset_bounds-points-corners g c = let k = known c.args.n _ c.args.corners.now c.in_default.ensures c.loop-h.h (omega arith) in omega arith
 
 pub bounds-points-corners : goal.bounds-points-corners
-bounds-points-corners g c = known c.args.n _ c.args.corners.now c.in-default.ensures c.loop-h.h (omega arith)
+bounds-points-corners g c = known c.args.n _ c.args.corners.now c.in_default.ensures c.loop-h.h (omega arith)
 
 pub loop-h-preserved : goal.loop-h-preserved
-loop-h-preserved g c = spread_more c.loop-h.h c.args.corners.now c.args.points.now c.args.table.now c.loop-h.table _ (omega arith) c.loop-h.invariant (get_or_read c.args.points.now (get_or c.args.corners.now c.loop-h.h 0) c.index-points-corners.result (known c.args.n _ c.args.corners.now c.in-default.ensures c.loop-h.h (omega arith)) c.index-points-corners.is)
+loop-h-preserved g c = spread_more c.loop-h.h c.args.corners.now c.args.points.now c.args.table.now c.loop-h.table _ (omega arith) c.loop-h.invariant (get_or_read c.args.points.now (get_or c.args.corners.now c.loop-h.h 0) c.index-points-corners.result (known c.args.n _ c.args.corners.now c.in_default.ensures c.loop-h.h (omega arith)) c.index-points-corners.is)
 
 pub returns : goal.returns
 returns g c =
     let e : c.loop-h.h ≡ c.args.n = omega arith in
     let full = subst (λ (n : ℕ). Spread n c.args.corners.now c.args.points.now c.args.table.now c.loop-h.table) e c.loop-h.invariant in
     record {
-      answer = goes _ _ _ _ (omega arith) (omega arith) c.in-default.ensures;
+      answer = goes _ _ _ _ (omega arith) (omega arith) c.in_default.ensures;
       taken = λ _. full;
       rings = λ _. alike _ _ _ _ _ full;
       declined = λ e. absurd (false≢true (sym e));

@@ -13,10 +13,10 @@ returns-in-Some c =
     let s = sheet c.args.points c.args.lengths.now c.args.corners.now in
     untouched s c.args.next.now c.args.prev.now c.args.twin.now (Face c.in-Some.f) (first_face s _ _ c.in-Some.ensures) refl
 
-pub returns-in-default-count : goal.returns-in-default-count
-returns-in-default-count c =
+pub returns-in_default-count : goal.returns-in_default-count
+returns-in_default-count c =
     let s = sheet c.args.points c.args.lengths.now c.args.corners.now in
-    untouched s c.args.next.now c.args.prev.now c.args.twin.now TooMany (too_many s _ c.in-default.ensures (counted_none (darts s) c.in-default-count.ensures)) refl
+    untouched s c.args.next.now c.args.prev.now c.args.twin.now TooMany (too_many s _ c.in_default.ensures (counted_none (darts s) c.in_default-count.ensures)) refl
 
 pub returns-then-corners-size : goal.returns-then-corners-size
 returns-then-corners-size c =
@@ -30,16 +30,16 @@ returns-then-corners-size c =
       | then-corners-size-via-else-corners-size+else-next-size+then-prev-size w ↦ inr (inr (inl w.if-prev-size.true))
       | then-corners-size-via-else-corners-size+else-next-size+else-prev-size+then-twin-size w ↦ inr (inr (inr w.if-twin-size.true))
     ] in
-    cut_short s c.args.next.now c.args.prev.now c.args.twin.now n k.0 c.in-default.ensures k.1 (cramped n p w)
+    cut_short s c.args.next.now c.args.prev.now c.args.twin.now n k.0 c.in_default.ensures k.1 (cramped n p w)
 
-pub returns-in-err-settle : goal.returns-in-err-settle
-returns-in-err-settle c =
+pub returns-in_err-settle : goal.returns-in_err-settle
+returns-in_err-settle c =
     let s = sheet c.args.points c.args.lengths.now c.args.corners.now in
     let n = c.in-Some-count.n in
     let k = counted_some (darts s) n c.in-Some-count.ensures in
-    let p = err_from_is_err_and c.from-residual.result c.from-residual.ensures.1 in
-    let d = finish s c.args.next.now c.args.prev.now c.args.twin.now c.settle.new.next c.settle.new.prev c.settle.new.twin (Err c.in-err-settle.field-0.0) n k.0 c.in-default.ensures k.1
-    (roomy n (places s c.args.next.now c.args.prev.now c.args.twin.now) (record { corners = omega arith; next = omega arith; prev = omega arith; twin = omega arith })) c.in-err-settle.ensures.answer c.in-err-settle.ensures.tables in
+    let p = err_from_is_err_and c.from_residual.result c.from_residual.ensures.1 in
+    let d = finish s c.args.next.now c.args.prev.now c.args.twin.now c.settle.new.next c.settle.new.prev c.settle.new.twin (Err c.in_err-settle.field-0.0) n k.0 c.in_default.ensures k.1
+    (roomy n (places s c.args.next.now c.args.prev.now c.args.twin.now) (record { corners = omega arith; next = omega arith; prev = omega arith; twin = omega arith })) c.in_err-settle.ensures.answer c.in_err-settle.ensures.tables in
     subst (λ r. Closed s c.args.next.now c.args.prev.now c.args.twin.now (c.settle.new.next ++ drop n c.args.next.now) (c.settle.new.prev ++ drop n c.args.prev.now) (c.settle.new.twin ++ drop n c.args.twin.now) r) (sym (p.1 ∙ ap Err p.2)) d
 
 pub returns : goal.returns
@@ -47,5 +47,5 @@ returns c =
     let s = sheet c.args.points c.args.lengths.now c.args.corners.now in
     let n = c.in-Some-count.n in
     let k = counted_some (darts s) n c.in-Some-count.ensures in
-    finish s c.args.next.now c.args.prev.now c.args.twin.now c.settle.new.next c.settle.new.prev c.settle.new.twin (Ok tt) n k.0 c.in-default.ensures k.1
-    (roomy n (places s c.args.next.now c.args.prev.now c.args.twin.now) (record { corners = omega arith; next = omega arith; prev = omega arith; twin = omega arith })) c.in-ok-settle.ensures.answer c.in-ok-settle.ensures.tables
+    finish s c.args.next.now c.args.prev.now c.args.twin.now c.settle.new.next c.settle.new.prev c.settle.new.twin (Ok tt) n k.0 c.in_default.ensures k.1
+    (roomy n (places s c.args.next.now c.args.prev.now c.args.twin.now) (record { corners = omega arith; next = omega arith; prev = omega arith; twin = omega arith })) c.in_ok-settle.ensures.answer c.in_ok-settle.ensures.tables

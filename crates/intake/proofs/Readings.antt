@@ -1,10 +1,9 @@
 -- A sheet that was read into tables of its sizes, as closing takes it.
-use Rattle.std.proofs.Common.{◌≡◌, ℕ, ◌<◌, ◌≤◌, min, Bool, true, false, cond, ltb, List, ◌++◌, map, length, drop, is_ok, Ok, Err, Result, sym, refl, ap, ◌∙◌, subst, append-nil, arith}
+use Rattle.std.proofs.Common.{◌≡◌, ℕ, ◌≤◌, min, List, ◌++◌, map, length, is_ok, Ok, Err, Result, sym, refl, ap, ◌∙◌, subst, append-nil, arith}
 use lib.ListN.{length-map}
 use Rattle.std.proofs.lemmas.List.{drop_all}
 use Rattle.std.proofs.lemmas.Bool.{le-ltb}
-use Rattle.mesh.specs.Mesh.{Mesh, Lawful, Same}
-use Rattle.skin.specs.Counts.{counting}
+use Rattle.mesh.specs.Mesh.{Same}
 use Rattle.skin.specs.declared.count.Counts.{Counts}
 use Rattle.skin.specs.Meaning.{meaning}
 use Rattle.skin.proofs.Counted.{counting_same}
@@ -18,10 +17,9 @@ use Rattle.sheet.specs.Read.{Tables, sizes, sized, stored, settled, holding, Rea
 use Rattle.sheet.proofs.Forms.{never, ok_is}
 use Rattle.closing.specs.declared.fault.SkinFault.{SkinFault}
 use Rattle.closing.specs.Sheet.{Sheet, sheet, mesh}
-use Rattle.closing.specs.Causes.{Places, places}
+use Rattle.closing.specs.Causes.{places}
 use Rattle.closing.specs.Held.{Held}
 use Rattle.closing.specs.Verdict.{verdict}
-use Rattle.intake.specs.declared.survey.Survey.{Survey}
 use Rattle.intake.specs.Figures.{figure_of}
 use Rattle.intake.specs.Surveys.{drawn, ample, counted, closed_to, survey_of, Holding}
 

@@ -38,26 +38,26 @@ read_point t dart old l h =
     let e : numbers_of old ≡ numbers_of (point_of t dart) = h ∙ get_or-map (place ghosts) t dart (record { x = pos 0; y = pos 0; z = pos 0 }) [] l in
     solid_same old (point_of t dart) (cc) (cc) (cc)
 
-pub returns-in-err-point : goal.returns-in-err-point
-returns-in-err-point g c =
-    let p = err_from_is_err_and c.from-residual-in-err-point.result c.from-residual-in-err-point.ensures.1 in
+pub returns-in_err-point : goal.returns-in_err-point
+returns-in_err-point g c =
+    let p = err_from_is_err_and c.from_residual-in_err-point.result c.from_residual-in_err-point.ensures.1 in
     let t = c.args.table.now in
     let dart = c.args.dart in
-    let old = c.in-ok-old.old in
+    let old = c.in_ok-old.old in
     let n = (work g.S.Skin c.args.piece.now).carrier.n in
-    let k = reached (get_or (map (place ghosts) t) dart []) (numbers_of old) n dart (length t) c.in-ok-old.ensures.answer in
+    let k = reached (get_or (map (place ghosts) t) dart []) (numbers_of old) n dart (length t) c.in_ok-old.ensures.answer in
     let same : old ≡ point_of t dart = read_point t dart old (below n dart (length t) k.1) k.0 in
-    rw (p.1, p.2) (k.1, subst (λ (q : SolidPoint). TheOne (Ordered c.args.order q) (Err c.in-err-point.field-0.0)) same c.in-err-point.ensures, refl, refl)
+    rw (p.1, p.2) (k.1, subst (λ (q : SolidPoint). TheOne (Ordered c.args.order q) (Err c.in_err-point.field-0.0)) same c.in_err-point.ensures, refl, refl)
 
 pub returns : goal.returns
 returns g c =
     let t = c.args.table.now in
     let dart = c.args.dart in
-    let old = c.in-ok-old.old in
+    let old = c.in_ok-old.old in
     let n = (work g.S.Skin c.args.piece.now).carrier.n in
-    let k = reached (get_or (map (place ghosts) t) dart []) (numbers_of old) n dart (length t) c.in-ok-old.ensures.answer in
+    let k = reached (get_or (map (place ghosts) t) dart []) (numbers_of old) n dart (length t) c.in_ok-old.ensures.answer in
     let same : old ≡ point_of t dart = read_point t dart old (below n dart (length t) k.1) k.0 in (
-      c.in-ok-point.point,
-      subst (λ (q : SolidPoint). TheOne (Ordered c.args.order q) (Ok c.in-ok-point.point)) same c.in-ok-point.ensures,
-      c.in-ok-place.ensures,
+      c.in_ok-point.point,
+      subst (λ (q : SolidPoint). TheOne (Ordered c.args.order q) (Ok c.in_ok-point.point)) same c.in_ok-point.ensures,
+      c.in_ok-place.ensures,
     )

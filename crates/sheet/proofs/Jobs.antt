@@ -1,14 +1,14 @@
 -- What reading a job means.
-use Rattle.std.proofs.Common.{◌≡◌, ℕ, zero, suc, ◌+◌, ◌<◌, ◌≤◌, List, [], ◌∷◌, ◌++◌, length, drop, Ok, Err, codes, decimal, Result, sym, refl, ap, ◌∙◌, subst, inl, inr, append-nil, arith}
+use Rattle.std.proofs.Common.{◌≡◌, ℕ, ◌≤◌, List, ◌++◌, length, Ok, Err, codes, decimal, Result, sym, refl, ap, ◌∙◌, subst, inl, inr, append-nil, arith}
 use Rattle.sheet.specs.declared.fault.TextFault.{TextFault}
 use Rattle.sheet.specs.declared.fault.TextFault.TheVariants as fault
 use Rattle.sheet.specs.declared.record.Sizes.{Sizes}
 use Rattle.sheet.specs.declared.record.JobSizes.{JobSizes}
-use Rattle.sheet.specs.Form.{Form, gives, token, natural, judge, after, then, blank, line_end}
-use Rattle.sheet.specs.Sheet.{Sheet, sheet, sheet_text, Ranged}
-use Rattle.sheet.proofs.Grammar.{Spelled, s_token, s_natural, s_gives, Parted}
+use Rattle.sheet.specs.Form.{gives, judge, after, then, blank, line_end}
+use Rattle.sheet.specs.Sheet.{Sheet, sheet, sheet_text}
+use Rattle.sheet.proofs.Grammar.{Spelled, s_token, s_natural, Parted}
 use Rattle.sheet.specs.Read.{Tables, sizes, holding, stored, settled, read, ReadsSheet}
-use Rattle.sheet.specs.Job.{Job, job_line, job, job_text, JobRanged, job_sizes, headed, stored_job, settled_job, read_job, JobLaw, ReadsJob}
+use Rattle.sheet.specs.Job.{Job, job_line, job, job_text, JobRanged, job_sizes, headed, settled_job, read_job, JobLaw, ReadsJob}
 use Rattle.sheet.proofs.Forms.{judge_after, never, ok_is}
 use Rattle.sheet.proofs.Complete.{parted_sheet, parted_after, run_job}
 use Rattle.sheet.proofs.Spellings.{two, said, retold, sheet_only, sheet_every}

@@ -1,24 +1,24 @@
 -- A form that declines a text names the place of its first wrong token.
-use Rattle.std.proofs.Common.{◌≡◌, ℕ, zero, suc, ◌+◌, ◌-◌, ◌^◌, ◌<◌, ◌≤◌, Bool, true, false, cond, eqb, ltb, leb, ◌⊎◌, List, [], ◌∷◌, ◌++◌, length, get_or, take, drop, ℤ, pos, negsuc, Some, None, Ok, Err, decimal, Option, Result, sym, refl, ap, ◌∙◌, subst, subst₂, inl, inr, ⊎_elim, append_assoc, append-nil, add-zero, one-add, arith, length-append, length-drop}
+use Rattle.std.proofs.Common.{◌≡◌, ℕ, zero, suc, ◌+◌, ◌-◌, ◌^◌, ◌<◌, ◌≤◌, Bool, true, false, cond, eqb, ltb, leb, ◌⊎◌, List, [], ◌∷◌, ◌++◌, length, get_or, take, drop, ℤ, pos, negsuc, Some, None, Ok, Err, decimal, Option, Result, sym, refl, ap, ◌∙◌, subst, subst₂, inl, inr, ⊎_elim, append_assoc, add-zero, one-add, arith, length-append, length-drop}
 use Rattle.std.specs.Fmt.{signed_decimal}
 use Rattle.std.specs.Str.{bytes_eq}
 use Rattle.std.specs.List.{prefix_len, AllByRecursion as All}
 use Rattle.std.proofs.lemmas.Slice.Eq.{bytes_eq-Decides}
 use Rattle.std.proofs.lemmas.List.{append_cancel_left, drop-drop, length-take-le}
 use Rattle.std.proofs.lemmas.List.Sums.{prefix_len-le-length}
-use Rattle.std.proofs.lemmas.Bool.{leb-true, le-leb, eqb-true}
+use Rattle.std.proofs.lemmas.Bool.{le-leb, eqb-true}
 use Rattle.sheet.specs.declared.fault.TextFault.{TextFault}
 use Rattle.sheet.specs.declared.fault.TextFault.TheVariants as fault
 use Rattle.sheet.specs.Number as number
 use Rattle.point.specs.Range.{InRange}
 use Rattle.sheet.specs.Number.{natural_of, coordinate_of, limited, bounded, SameSign, Alike}
 use Rattle.sheet.specs.Token.{plain, front, numeric}
-use Rattle.sheet.specs.Form.{Form, gives, token, natural, coordinate, end, judge, then, token_at, natural_at, coordinate_at, end_at, placed, after, times}
-use Rattle.sheet.proofs.Grammar.{Spelled, s_gives, s_token, s_natural, s_coordinate, s_end, Breaks, Mark, Run, Parted}
+use Rattle.sheet.specs.Form.{Form, gives, token, natural, coordinate, end, judge, then, token_at, natural_at, coordinate_at, placed, after, times}
+use Rattle.sheet.proofs.Grammar.{Spelled, s_gives, s_token, s_natural, s_coordinate, s_end, Run, Parted}
 use Rattle.sheet.proofs.Laws.{number_law, integer_of, integer_decimal, integer_natural}
 use Rattle.sheet.proofs.Steps.{integer_none}
 use Rattle.sheet.proofs.Forms.{never, ok_is}
-use Rattle.sheet.proofs.Sound.{joined, front_part, token_sound, placed_sound, end_sound}
+use Rattle.sheet.proofs.Sound.{joined, token_sound, placed_sound}
 use Rattle.sheet.proofs.Complete.{Clear, front_run_is, front_mark, breaks_clear, run_decimal, run_signed}
 use Rattle.sheet.proofs.Spellings.{Endless, endless_times}
 

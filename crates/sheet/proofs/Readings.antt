@@ -1,16 +1,14 @@
 -- What reading a sheet means.
-use Rattle.std.proofs.Common.{◌≡◌, ℕ, zero, suc, ◌+◌, ◌-◌, ◌^◌, ◌<◌, ◌≤◌, Bool, true, false, cond, ltb, List, [], ◌∷◌, ◌++◌, map, length, drop, Ok, Err, codes, Result, sym, refl, ap, ◌∙◌, subst, append-nil, arith}
-use Rattle.std.proofs.lemmas.List.{drop_all}
+use Rattle.std.proofs.Common.{◌≡◌, ℕ, ◌<◌, ◌≤◌, Bool, true, false, cond, ltb, List, length, drop, Ok, Err, codes, Result, sym, refl, ap, ◌∙◌, subst, arith}
 use Rattle.std.proofs.lemmas.Bool.{lt-ltb, le-ltb}
 use Rattle.sheet.specs.declared.fault.TextFault.{TextFault}
 use Rattle.sheet.specs.declared.fault.TextFault.TheVariants as fault
 use Rattle.point.specs.declared.solid.SolidRecord.{SolidRecord}
 use Rattle.sheet.specs.declared.record.Sizes.{Sizes}
 use Rattle.sheet.specs.declared.record.Layout.{Layout}
-use Rattle.sheet.specs.Form.{Form, gives, token, natural, coordinate, end, judge, after, times, then, place_of, token_at, end_at, line_end}
-use Rattle.sheet.proofs.Grammar.{Spelled}
-use Rattle.sheet.specs.Sheet.{Sheet, sheet, sheet_text, Ranged, corners_of, corner_count, point_line, corner, face_line, header, closing_line, closed, faced}
-use Rattle.sheet.specs.Fill.{over, Fills, FillsFaces}
+use Rattle.sheet.specs.Form.{Form, gives, token, judge, after, times, then, token_at, end_at, line_end}
+use Rattle.sheet.specs.Sheet.{Sheet, sheet, sheet_text, Ranged, corner_count, point_line, corner, face_line, header, closing_line, closed, faced}
+use Rattle.sheet.specs.Fill.{Fills, FillsFaces}
 use Rattle.sheet.specs.Read.{Tables, tables, sizes, sized, holding, stored, settled, declined, read, Laid, SheetLaw, ReadsSheet}
 use Rattle.sheet.proofs.Forms.{judge_after, never, ok_is}
 use Rattle.sheet.proofs.Sound.{end_sound}

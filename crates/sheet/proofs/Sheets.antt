@@ -1,14 +1,12 @@
 -- The lines of a sheet, one after another.
-use Rattle.std.proofs.Common.{◌≡◌, ℕ, zero, suc, ◌+◌, ◌-◌, ◌<◌, ◌≤◌, List, [], ◌∷◌, ◌++◌, map, length, Ok, Err, codes, Result, sym, refl, ap, ◌∙◌, subst, arith, length-append}
+use Rattle.std.proofs.Common.{◌≡◌, ℕ, ◌+◌, ◌<◌, ◌≤◌, List, ◌∷◌, length, Ok, Err, codes, Result, sym, refl, ap, ◌∙◌, subst, arith, length-append}
 use Rattle.sheet.specs.declared.fault.TextFault.{TextFault}
 use Rattle.point.specs.declared.solid.SolidRecord.{SolidRecord}
 use Rattle.sheet.specs.declared.record.Layout.{Layout}
-use Rattle.sheet.specs.Number.{natural_of}
-use Rattle.sheet.specs.Token.{front}
-use Rattle.sheet.specs.Form.{Form, gives, token, natural, judge, after, times, then, place_of, viewed, token_at, natural_at, line_end}
-use Rattle.sheet.proofs.Grammar.{Spelled, s_token, s_natural, s_gives, Reads}
+use Rattle.sheet.specs.Form.{gives, token, natural, judge, after, times, then, place_of, viewed, token_at, natural_at, line_end}
+use Rattle.sheet.proofs.Grammar.{Spelled, s_token, s_natural, s_gives}
 use Rattle.sheet.specs.Sheet.{Sheet, sheet, point_line, corner, face_line, header, closing_line, closed, faced, corners_of, corner_count}
-use Rattle.sheet.specs.Read.{Laid, Judged, sizes}
+use Rattle.sheet.specs.Read.{Laid, Judged}
 use Rattle.sheet.proofs.Forms.{judge_after, then_cong, never, ok_is, times_length, placed_ok, placed_err, viewed_ok, viewed_err}
 use Rattle.sheet.proofs.Sound.{sound}
 

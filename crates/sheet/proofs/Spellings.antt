@@ -1,13 +1,12 @@
 -- The texts of a sheet's form are the writings of the sheets in range.
-use Rattle.std.proofs.Common.{◌≡◌, ℕ, zero, suc, ◌+◌, ◌-◌, ◌<◌, ◌≤◌, List, [], ◌∷◌, ◌++◌, map, length, ℤ, codes, decimal, sym, refl, ap, ◌∙◌, subst, append_assoc, append-nil, arith, length-append}
+use Rattle.std.proofs.Common.{◌≡◌, ℕ, zero, suc, ◌≤◌, List, [], ◌∷◌, ◌++◌, length, ℤ, codes, decimal, sym, refl, ap, ◌∙◌, subst, append_assoc, append-nil, arith, length-append}
 use Rattle.std.specs.List.{flat_map, AllByRecursion as All}
 use Rattle.std.specs.Fmt.{signed_decimal}
 use Rattle.std.proofs.lemmas.List.{nil_from_length}
 use Rattle.point.specs.declared.solid.SolidRecord.{SolidRecord}
-use Rattle.point.specs.Range.{InRange}
 use Rattle.sheet.specs.Form.{Form, gives, token, natural, coordinate, end, after, times, blank, line_end}
 use Rattle.sheet.proofs.Grammar.{Spelled, s_gives, s_token, s_natural, s_coordinate, s_end}
-use Rattle.sheet.specs.Sheet.{Sheet, sheet, point_line, corner, face_line, header, closing_line, closed, faced, point_text, face_text, sheet_text, PointIn, FaceIn, Ranged}
+use Rattle.sheet.specs.Sheet.{Sheet, sheet, point_line, corner, face_line, closed, faced, point_text, face_text, sheet_text, PointIn, FaceIn, Ranged}
 
 -- a spelling of one form after another is in two parts
 pub record Two {A B : Type 0} (f : Form A) (k : A → Form B) (b : B) (bs : List ℕ) : Type 0 where

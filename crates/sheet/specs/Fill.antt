@@ -1,5 +1,5 @@
 -- What a second pass over a text leaves in the tables.
-use Rattle.std.specs.Prelude.{◌≡◌, ℕ, ◌+◌, ◌<◌, ◌≤◌, List, [], ◌∷◌, ◌++◌, map, length, drop, Ok, Err}
+use Rattle.std.specs.Prelude.{◌≡◌, ℕ, List, ◌++◌, map, length, drop, Ok}
 use Rattle.sheet.specs.Form.{Form, judge, times}
 use Rattle.sheet.specs.Sheet.{face_line, corners_of}
 

@@ -1,10 +1,8 @@
 -- The form of a text: which tokens it is made of, and what they say.
-use Rattle.std.specs.Prelude.{◌≡◌, ℕ, zero, suc, ◌+◌, ◌<◌, ◌≤◌, Bool, true, false, cond, List, [], ◌∷◌, ◌++◌, length, drop, ℤ, Ok, Err, decimal, Result, nat_le}
+use Rattle.std.specs.Prelude.{ℕ, zero, suc, ◌+◌, cond, List, [], ◌∷◌, length, drop, ℤ, Ok, Err, Result, nat_le}
 use Rattle.std.specs.Str.{bytes_eq}
-use Rattle.std.specs.Fmt.{signed_decimal}
 use Rattle.sheet.specs.declared.fault.TextFault.{TextFault}
 use Rattle.sheet.specs.declared.fault.TextFault.TheVariants as fault
-use Rattle.point.specs.Range.{InRange}
 use Rattle.sheet.specs.Number.{natural_of, coordinate_of}
 use Rattle.sheet.specs.Token.{front}
 

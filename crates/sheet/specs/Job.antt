@@ -1,5 +1,5 @@
 -- The form of a job, and what reading one does.
-use Rattle.std.specs.Prelude.{◌≡◌, ℕ, ◌+◌, ◌<◌, ◌≤◌, List, [], ◌∷◌, ◌++◌, length, drop, Ok, Err, codes, decimal, Result}
+use Rattle.std.specs.Prelude.{◌≡◌, ℕ, ◌≤◌, List, ◌++◌, Ok, Err, codes, decimal, Result}
 use Rattle.sheet.specs.declared.fault.TextFault.{TextFault}
 use Rattle.sheet.specs.declared.fault.TextFault.TheVariants as fault
 use Rattle.sheet.specs.declared.record.Sizes.{Sizes}
@@ -7,7 +7,7 @@ use Rattle.sheet.specs.declared.record.JobSizes.{JobSizes}
 use Rattle.sheet.specs.Form.{Form, gives, token, natural, judge, after, blank, line_end}
 use Rattle.sheet.specs.Sheet.{Sheet, sheet, sheet_text, Ranged}
 use Rattle.sheet.specs.First.{PastLimit, OffForm}
-use Rattle.sheet.specs.Read.{Tables, sizes, holding, stored, declined}
+use Rattle.sheet.specs.Read.{Tables, sizes, holding, stored}
 
 -- how many averages a split, how many splits, and of what
 pub record Job : Type 0 where

@@ -1,5 +1,5 @@
 -- What reading a sheet does: one outcome for each text and all tables, and what it means.
-use Rattle.std.specs.Prelude.{◌≡◌, ℕ, ◌+◌, ◌<◌, ◌≤◌, Bool, true, false, cond, List, [], ◌∷◌, ◌++◌, map, length, drop, Ok, Err, Result, nat_lt}
+use Rattle.std.specs.Prelude.{◌≡◌, ℕ, cond, List, map, length, drop, Ok, Err, Result, nat_lt}
 use Rattle.sheet.specs.declared.fault.TextFault.{TextFault}
 use Rattle.sheet.specs.declared.fault.TextFault.TheVariants as fault
 use Rattle.point.specs.declared.solid.SolidRecord.{SolidRecord}

@@ -21,44 +21,66 @@ mod tests {
         read_sheet(text, 0, &mut points, &mut lengths, &mut corners)
     }
 
-    fn declines(rt: &impl Abort, text: &[u8], number: u32, value: i128) -> Result<(), Fail> {
+    fn declines(rt: &impl Abort, text: &[u8], number: u32, value: i128, case: &str) {
         match answer(text) {
-            Ok(_) => Err(Fail::new("it was accepted")),
-            Err(fault) => {
-                assert_eq!(rt;
-                    fault.refusal(),
-                    Refusal {
-                        number,
-                        value: Some(value),
-                    }
-                );
-                Ok(())
-            },
+            Ok(_) => panic!(rt; "{case}: it was accepted"),
+            Err(fault) => assert_eq!(rt;
+                fault.refusal(),
+                Refusal {
+                    number,
+                    value: Some(value),
+                },
+                "{case}"
+            ),
         }
     }
 
     #[test]
-    fn not_of_the_form(rt: HostRuntime) -> Result<(), Fail> {
-        declines(&rt, b"", 8, 0).note("empty")?;
-        declines(&rt, b"points 01\n", 8, 7).note("leading zero")?;
-        declines(&rt, b"points -1\n", 8, 7).note("a minus in a count")?;
-        declines(&rt, b"points -99999999999\n", 8, 7).note("the sign before the range")?;
-        declines(&rt, b"points 0\nfaces 0\nend", 8, 20).note("no last line end")?;
-        declines(&rt, b"points 0\nfaces 0\nend\n ", 8, 21).note("a byte after the end")?;
-        declines(&rt, b"points 0\r\nfaces 0\r\nend\r\n", 8, 7).note("carriage return")?;
-        declines(&rt, b"points\t0\nfaces 0\nend\n", 8, 0).note("tab")?;
-        declines(&rt, b"points \0\nfaces 0\nend\n", 8, 7).note("NUL")?;
-        declines(&rt, b"points 1\n0 -0 0\n", 8, 11).note("minus zero")
+    fn not_of_the_form(rt: HostRuntime) {
+        declines(&rt, b"", 8, 0, "empty");
+        declines(&rt, b"points 01\n", 8, 7, "leading zero");
+        declines(&rt, b"points -1\n", 8, 7, "a minus in a count");
+        declines(
+            &rt,
+            b"points -99999999999\n",
+            8,
+            7,
+            "the sign before the range",
+        );
+        declines(&rt, b"points 0\nfaces 0\nend", 8, 20, "no last line end");
+        declines(
+            &rt,
+            b"points 0\nfaces 0\nend\n ",
+            8,
+            21,
+            "a byte after the end",
+        );
+        declines(
+            &rt,
+            b"points 0\r\nfaces 0\r\nend\r\n",
+            8,
+            7,
+            "carriage return",
+        );
+        declines(&rt, b"points\t0\nfaces 0\nend\n", 8, 0, "tab");
+        declines(&rt, b"points \0\nfaces 0\nend\n", 8, 7, "NUL");
+        declines(&rt, b"points 1\n0 -0 0\n", 8, 11, "minus zero");
     }
 
     #[test]
-    fn past_a_limit(rt: HostRuntime) -> Result<(), Fail> {
-        declines(&rt, b"points 1048577\n", 9, 7).note("too many points")?;
-        declines(&rt, b"points 1\n0 16777217 0\n", 9, 11).note("coordinate above")?;
-        declines(&rt, b"points 1\n-16777217 0 0\n", 9, 9).note("coordinate below")?;
-        declines(&rt, b"points 0\nfaces 1\n0\n", 9, 17).note("no corner")?;
-        declines(&rt, b"points 0\nfaces 1\n65 0\n", 9, 17).note("65 corners")?;
-        declines(&rt, b"points 0\nfaces 1\n1 1048576\n", 9, 19).note("vertex number")
+    fn past_a_limit(rt: HostRuntime) {
+        declines(&rt, b"points 1048577\n", 9, 7, "too many points");
+        declines(&rt, b"points 1\n0 16777217 0\n", 9, 11, "coordinate above");
+        declines(&rt, b"points 1\n-16777217 0 0\n", 9, 9, "coordinate below");
+        declines(&rt, b"points 0\nfaces 1\n0\n", 9, 17, "no corner");
+        declines(&rt, b"points 0\nfaces 1\n65 0\n", 9, 17, "65 corners");
+        declines(
+            &rt,
+            b"points 0\nfaces 1\n1 1048576\n",
+            9,
+            19,
+            "vertex number",
+        );
     }
 
     #[test]
@@ -67,34 +89,35 @@ mod tests {
         for _ in 0..400 {
             text.push(b'9')?;
         }
-        declines(&rt, text.as_slice(), 9, 7)?;
+        declines(&rt, text.as_slice(), 9, 7, "400 digits");
         text.push(b'x')?;
-        declines(&rt, text.as_slice(), 8, 7)
+        declines(&rt, text.as_slice(), 8, 7, "and then a letter");
+        Ok(())
     }
 
     #[test]
-    fn short_tables(rt: HostRuntime) -> Result<(), Fail> {
+    fn short_tables(rt: HostRuntime) {
         declines(
             &rt,
             b"points 5\n1 1 1\n1 1 1\n1 1 1\n1 1 1\n1 1 1\nfaces 0\nend\n",
             1,
             5,
-        )
-        .note("points first")?;
+            "points first",
+        );
         declines(
             &rt,
             b"points 0\nfaces 3\n3 0 1 2\n3 0 1 2\n3 0 1 2\nend\n",
             1,
             3,
-        )
-        .note("then faces")?;
+            "then faces",
+        );
         declines(
             &rt,
             b"points 0\nfaces 2\n5 0 1 2 3 4\n4 0 1 2 3\nend\n",
             1,
             9,
-        )
-        .note("then corners")
+            "then corners",
+        );
     }
 
     #[test]

@@ -2,9 +2,7 @@ use Rattle.std.proofs.Common.{◌≡◌, ℕ, ◌+◌, ◌%◌, not, eqb, sym, a
 use Rattle.std.proofs.lemmas.Bool.{eq-eqb, ne_eqb}
 use Rattle.std.proofs.lemmas.Bool.Decides.{eqb_tells}
 use Rattle.workpiece.specs.Carriers.{carried}
-use Rattle.workpiece.specs.Law.{work}
 use Rattle.writer.specs.Outcome.{Writes}
-use Rattle.writer.specs.Turned.{turned}
 use Rattle.writer.proofs.piece.write_sheet.Goals as goal
 
 -- two numbers of which one is odd have an odd sum

@@ -4,7 +4,6 @@ use Rattle.mesh.proofs.Rings.{ring_pos}
 use Rattle.mesh.proofs.Rounds.{vertex_rounds, not_round, walked, walked_one}
 use Rattle.skin.specs.Skins.{mesh}
 use Rattle.writer.proofs.Numbering.{above_more, above_done}
-use Rattle.writer.proofs.rings.first_under.Given as given
 use Rattle.writer.proofs.rings.first_under.Goals as goal
 
 pub loop-c-init : goal.loop-c-init

@@ -1,5 +1,5 @@
 -- All that writing a sheet promises, from its outcome.
-use Rattle.std.proofs.Common.{◌≡◌, ℕ, ◌+◌, ◌≤◌, Bool, List, ◌++◌, length, take, drop, Ok, Err, Result, sym, ap, ◌∙◌, zero-add, arith}
+use Rattle.std.proofs.Common.{◌≡◌, ℕ, ◌≤◌, Bool, List, ◌++◌, length, take, drop, Ok, Err, Result, sym, ap, ◌∙◌, zero-add, arith}
 use Rattle.mesh.specs.Mesh.{Mesh, Lawful}
 use Rattle.sheet.specs.Read.{Tables, sizes, holding, read}
 use Rattle.sheet.specs.Sheet.{sheet_text}

@@ -59,16 +59,18 @@ mod tests {
         points: &[SolidRecord],
         buf: &mut [u8],
         value: i128,
+        case: &str,
     ) -> Result<(), Fail> {
         match write_skin(heap, skin, points, false, buf) {
-            Ok(_) => Err(Fail::new("it was written")),
+            Ok(_) => panic!(rt; "{case}: it was written"),
             Err(fault) => {
                 assert_eq!(rt;
                     fault.refusal().ok_or("no memory")?,
                     Refusal {
                         number: 1,
                         value: Some(value),
-                    }
+                    },
+                    "{case}"
                 );
                 Ok(())
             },
@@ -113,10 +115,10 @@ mod tests {
         skin.adopt(6, &NEXT, &PREV, &TWIN)?;
         let points = [A, B, C, A, C, B];
         let mut small = [b'#'; 176];
-        declines(&rt, rt.alloc(), &skin, &points[..5], &mut small, 6).note(
-            "points before the buffer",
-        )?;
-        declines(&rt, rt.alloc(), &skin, &points, &mut small, 177)?;
+        let case = "points before the buffer";
+        declines(&rt, rt.alloc(), &skin, &points[..5], &mut small, 6, case)?;
+        let case = "a byte too few";
+        declines(&rt, rt.alloc(), &skin, &points, &mut small, 177, case)?;
         assert!(rt; small[0] == b'#');
         let mut enough = [b'#'; 177];
         assert!(rt; write_skin(rt.alloc(), &skin, &points, false, &mut enough)? == 57);

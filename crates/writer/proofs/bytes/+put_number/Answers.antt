@@ -10,8 +10,8 @@ returns-then-n-lt10 t c =
     let l = length_one c.args.n (omega arith) in
     record { place = omega arith; inside = omega arith; text = write_one c.args.at c.args.n c.args.buf.now (omega arith) (omega arith) }
 
-pub put-number-p-requires : goal.put-number-p-requires
-put-number-p-requires t c =
+pub put_number-p-requires : goal.put_number-p-requires
+put_number-p-requires t c =
     let l = length_step c.args.n (omega arith) (omega arith) in
     (omega arith, record { fits = omega arith })
 
@@ -20,8 +20,8 @@ bounds-buf-p t c =
     let l = length_step c.args.n (omega arith) (omega arith) in
     omega arith
 
-pub overflow-add-result-2 : goal.overflow-add-result-2
-overflow-add-result-2 t c =
+pub overflow_add-result-2 : goal.overflow_add-result-2
+overflow_add-result-2 t c =
     let l = length_step c.args.n (omega arith) (omega arith) in
     omega arith
 
@@ -31,5 +31,5 @@ returns t c =
     record {
       place = omega arith;
       inside = omega arith;
-      text = write_step c.args.at c.args.n c.put-number-p.result c.args.buf.now c.put-number-p.new.buf (omega arith) (omega arith) c.put-number-p.ensures.place (omega arith) c.put-number-p.ensures.text;
+      text = write_step c.args.at c.args.n c.put_number-p.result c.args.buf.now c.put_number-p.new.buf (omega arith) (omega arith) c.put_number-p.ensures.place (omega arith) c.put_number-p.ensures.text;
     }

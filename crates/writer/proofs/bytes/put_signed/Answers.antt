@@ -6,12 +6,12 @@ use Rattle.writer.proofs.bytes.put_signed.Goals as goal
 
 pub returns-then-z-lt0 : goal.returns-then-z-lt0
 returns-then-z-lt0 c =
-    let e = minus_spelled c.args.z _ c.unsigned-abs.result (to_z-of_z w32 c.args.z c.ranges.z) c.if-z-lt0.true c.unsigned-abs.ensures.value in
+    let e = minus_spelled c.args.z _ c.unsigned_abs.result (to_z-of_z w32 c.args.z c.ranges.z) c.if-z-lt0.true c.unsigned_abs.ensures.value in
     let l = ap length e in
     record {
       place = omega arith;
       inside = omega arith;
-      text = c.put-number.ensures.text
-          ∙ write_front c.args.at (decimal c.unsigned-abs.result) c.args.buf.now 45 (omega arith)
+      text = c.put_number.ensures.text
+          ∙ write_front c.args.at (decimal c.unsigned_abs.result) c.args.buf.now 45 (omega arith)
           ∙ ap (λ w. written c.args.at w c.args.buf.now) (sym e);
     }

@@ -9,46 +9,46 @@ use Rattle.writer.proofs.lines.put_point.Goals as goal
 room : (at : ℕ) (p q : SolidRecord) (buf : List ℕ) → q ≡ p → Room at (point_text p) buf → Room at (point_text q) buf
 room at p q buf e r = subst (λ x. Room at (point_text x) buf) (sym e) r
 
-pub put-signed-x-requires : goal.put-signed-x-requires
-put-signed-x-requires c =
+pub put_signed-x-requires : goal.put_signed-x-requires
+put_signed-x-requires c =
     let f : SFits w32 c.meaning-q.result.x = search rules in
     room_same _ f (first_room _ (room _ _ _ _ c.meaning-q.ensures c.requires))
 
-pub put-byte-xb-requires : goal.put-byte-xb-requires
-put-byte-xb-requires c =
+pub put_byte-xb-requires : goal.put_byte-xb-requires
+put_byte-xb-requires c =
     let f : SFits w32 c.meaning-q.result.x = search rules in
-    first_room _ (next_room (put_same _ f c.put-signed-x.ensures) (room _ _ _ _ c.meaning-q.ensures c.requires))
+    first_room _ (next_room (put_same _ f c.put_signed-x.ensures) (room _ _ _ _ c.meaning-q.ensures c.requires))
 
-pub put-signed-y-requires : goal.put-signed-y-requires
-put-signed-y-requires c =
-    let f : SFits w32 c.meaning-q.result.x = search rules in
-    let g : SFits w32 c.meaning-q.result.y = search rules in
-    room_same _ g (first_room _ (next_room c.put-byte-xb.ensures (next_room (put_same _ f c.put-signed-x.ensures) (room _ _ _ _ c.meaning-q.ensures c.requires))))
-
-pub put-byte-yb-requires : goal.put-byte-yb-requires
-put-byte-yb-requires c =
+pub put_signed-y-requires : goal.put_signed-y-requires
+put_signed-y-requires c =
     let f : SFits w32 c.meaning-q.result.x = search rules in
     let g : SFits w32 c.meaning-q.result.y = search rules in
-    first_room _ (next_room (put_same _ g c.put-signed-y.ensures) (next_room c.put-byte-xb.ensures (next_room (put_same _ f c.put-signed-x.ensures) (room _ _ _ _ c.meaning-q.ensures c.requires))))
+    room_same _ g (first_room _ (next_room c.put_byte-xb.ensures (next_room (put_same _ f c.put_signed-x.ensures) (room _ _ _ _ c.meaning-q.ensures c.requires))))
 
-pub put-signed-z-requires : goal.put-signed-z-requires
-put-signed-z-requires c =
+pub put_byte-yb-requires : goal.put_byte-yb-requires
+put_byte-yb-requires c =
     let f : SFits w32 c.meaning-q.result.x = search rules in
     let g : SFits w32 c.meaning-q.result.y = search rules in
-    let h : SFits w32 c.meaning-q.result.z = search rules in
-    room_same _ h (first_room _ (next_room c.put-byte-yb.ensures (next_room (put_same _ g c.put-signed-y.ensures) (next_room c.put-byte-xb.ensures (next_room (put_same _ f c.put-signed-x.ensures) (room _ _ _ _ c.meaning-q.ensures c.requires))))))
+    first_room _ (next_room (put_same _ g c.put_signed-y.ensures) (next_room c.put_byte-xb.ensures (next_room (put_same _ f c.put_signed-x.ensures) (room _ _ _ _ c.meaning-q.ensures c.requires))))
 
-pub put-byte-requires : goal.put-byte-requires
-put-byte-requires c =
+pub put_signed-z-requires : goal.put_signed-z-requires
+put_signed-z-requires c =
     let f : SFits w32 c.meaning-q.result.x = search rules in
     let g : SFits w32 c.meaning-q.result.y = search rules in
     let h : SFits w32 c.meaning-q.result.z = search rules in
-    next_room (put_same _ h c.put-signed-z.ensures) (next_room c.put-byte-yb.ensures (next_room (put_same _ g c.put-signed-y.ensures) (next_room c.put-byte-xb.ensures (next_room (put_same _ f c.put-signed-x.ensures) (room _ _ _ _ c.meaning-q.ensures c.requires)))))
+    room_same _ h (first_room _ (next_room c.put_byte-yb.ensures (next_room (put_same _ g c.put_signed-y.ensures) (next_room c.put_byte-xb.ensures (next_room (put_same _ f c.put_signed-x.ensures) (room _ _ _ _ c.meaning-q.ensures c.requires))))))
+
+pub put_byte-requires : goal.put_byte-requires
+put_byte-requires c =
+    let f : SFits w32 c.meaning-q.result.x = search rules in
+    let g : SFits w32 c.meaning-q.result.y = search rules in
+    let h : SFits w32 c.meaning-q.result.z = search rules in
+    next_room (put_same _ h c.put_signed-z.ensures) (next_room c.put_byte-yb.ensures (next_room (put_same _ g c.put_signed-y.ensures) (next_room c.put_byte-xb.ensures (next_room (put_same _ f c.put_signed-x.ensures) (room _ _ _ _ c.meaning-q.ensures c.requires)))))
 
 pub returns : goal.returns
 returns c =
     let f : SFits w32 c.meaning-q.result.x = search rules in
     let g : SFits w32 c.meaning-q.result.y = search rules in
     let h : SFits w32 c.meaning-q.result.z = search rules in
-    subst (λ x. Put c.args.at c.put-byte.result (point_text x) c.args.buf.now c.put-byte.new.buf) c.meaning-q.ensures
-    (and_then (put_same _ f c.put-signed-x.ensures) (and_then c.put-byte-xb.ensures (and_then (put_same _ g c.put-signed-y.ensures) (and_then c.put-byte-yb.ensures (and_then (put_same _ h c.put-signed-z.ensures) c.put-byte.ensures)))))
+    subst (λ x. Put c.args.at c.put_byte.result (point_text x) c.args.buf.now c.put_byte.new.buf) c.meaning-q.ensures
+    (and_then (put_same _ f c.put_signed-x.ensures) (and_then c.put_byte-xb.ensures (and_then (put_same _ g c.put_signed-y.ensures) (and_then c.put_byte-yb.ensures (and_then (put_same _ h c.put_signed-z.ensures) c.put_byte.ensures)))))

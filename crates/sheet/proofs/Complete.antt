@@ -3,7 +3,7 @@ use Rattle.std.proofs.Common.{◌≡◌, ℕ, zero, suc, ◌+◌, ◌-◌, ◌^�
 use Rattle.std.specs.Char.{is_ascii_digit}
 use Rattle.std.specs.Fmt.{signed_decimal}
 use Rattle.std.specs.Str.{all_ascii_digits}
-use Rattle.std.specs.List.{prefix_len, AllByRecursion as All}
+use Rattle.std.specs.List.{prefix_len, AllByRecursion}
 use Rattle.std.proofs.lemmas.Slice.Eq.{bytes_eq-Decides}
 use Rattle.std.proofs.lemmas.List.{drop-drop, drop_at, take_at}
 use Rattle.std.proofs.lemmas.Bool.{le-leb, leb-true, and_parts}
@@ -27,7 +27,7 @@ unfolding Clear
 clear_none [] c = refl
 clear_none (b ∷ bs) c = rw c
 
-run_leads : (w bs : List ℕ) → All (λ b. plain b ≡ true) w → Clear bs → prefix_len plain (w ++ bs) ≡ length w
+run_leads : (w bs : List ℕ) → AllByRecursion (λ b. plain b ≡ true) w → Clear bs → prefix_len plain (w ++ bs) ≡ length w
 run_leads [] bs a c = clear_none bs c
 run_leads (b ∷ w) bs a c = let e = a.0 in let i = run_leads w bs a.1 c in rw e (one-add _ ∙ ap suc i)
 
@@ -56,7 +56,7 @@ breaks_clear (s_natural n l h s) b = absurd b
 breaks_clear (s_coordinate z h s) b = absurd b
 breaks_clear (s_end s) b = tt
 
-digits_plain : (ds : List ℕ) → all_ascii_digits ds ≡ true → All (λ b. plain b ≡ true) ds
+digits_plain : (ds : List ℕ) → all_ascii_digits ds ≡ true → AllByRecursion (λ b. plain b ≡ true) ds
 digits_plain [] e = tt
 digits_plain (d ∷ ds) e =
     let p = and_parts (is_ascii_digit d) (all_ascii_digits ds) e in

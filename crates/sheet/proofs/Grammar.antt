@@ -1,7 +1,7 @@
 -- The texts of a form, and which forms can be read back from their texts.
 use Rattle.std.proofs.Common.{◌≡◌, ℕ, ◌+◌, ◌-◌, ◌^◌, ◌<◌, ◌≤◌, true, false, ◌⊎◌, List, [], ◌∷◌, ◌++◌, length, drop, ℤ, decimal}
 use Rattle.std.specs.Fmt.{signed_decimal}
-use Rattle.std.specs.List.{AllByRecursion as All}
+use Rattle.std.specs.List.{AllByRecursion}
 use Rattle.point.specs.Range.{InRange}
 use Rattle.sheet.specs.Token.{plain}
 use Rattle.sheet.specs.Form.{Form, gives, token, natural, coordinate, end}
@@ -44,7 +44,7 @@ Mark w = (b : ℕ) × (w ≡ b ∷ []) × (plain b ≡ false)
 
 -- a run of other bytes
 abbrev pub Run : List ℕ → Type 0
-Run w = (0 < length w) × All (λ b. plain b ≡ true) w
+Run w = (0 < length w) × AllByRecursion (λ b. plain b ≡ true) w
 
 -- no two runs of the form stand side by side
 abbrev pub Parted : {A : Type 0} → Form A → Type 0

@@ -2,7 +2,7 @@
 use Rattle.std.proofs.Common.{◌≡◌, ℕ, zero, suc, ◌+◌, ◌-◌, ◌^◌, ◌<◌, ◌≤◌, Bool, true, false, cond, eqb, ltb, leb, ◌⊎◌, List, [], ◌∷◌, ◌++◌, length, get_or, take, drop, ℤ, pos, negsuc, Some, None, Ok, Err, decimal, Option, Result, sym, refl, ap, ◌∙◌, subst, subst₂, inl, inr, ⊎_elim, append_assoc, add-zero, one-add, arith, length-append, length-drop}
 use Rattle.std.specs.Fmt.{signed_decimal}
 use Rattle.std.specs.Str.{bytes_eq}
-use Rattle.std.specs.List.{prefix_len, AllByRecursion as All}
+use Rattle.std.specs.List.{prefix_len, AllByRecursion}
 use Rattle.std.proofs.lemmas.Slice.Eq.{bytes_eq-Decides}
 use Rattle.std.proofs.lemmas.List.{append_cancel_left, drop-drop, length-take-le}
 use Rattle.std.proofs.lemmas.List.Sums.{prefix_len-le-length}
@@ -118,7 +118,7 @@ run_clear (b ∷ bs) w r e = go (plain b) refl e
     go : (t : Bool) → plain b ≡ t → cond t (b ∷ take (prefix_len plain bs) bs) (b ∷ []) ≡ w → Clear (drop (length w) (b ∷ bs))
     go true p e = subst (λ n. Clear (drop n (b ∷ bs))) (ap suc (sym long) ∙ ap length e) (rest_clear bs)
     go false p e =
-        let a : All (λ b. plain b ≡ true) (b ∷ []) = subst (All (λ b. plain b ≡ true)) (sym e) r.1 in
+        let a : AllByRecursion (λ b. plain b ≡ true) (b ∷ []) = subst (AllByRecursion (λ b. plain b ≡ true)) (sym e) r.1 in
         let z : true ≡ false = sym a.0 ∙ p in
         absurd (grind arith)
 

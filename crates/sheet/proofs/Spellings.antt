@@ -1,6 +1,6 @@
 -- The texts of a sheet's form are the writings of the sheets in range.
 use Rattle.std.proofs.Common.{◌≡◌, ℕ, zero, suc, ◌≤◌, List, [], ◌∷◌, ◌++◌, length, ℤ, codes, decimal, sym, refl, ap, ◌∙◌, subst, append_assoc, append-nil, arith, length-append}
-use Rattle.std.specs.List.{flat_map, AllByRecursion as All}
+use Rattle.std.specs.List.{flat_map, AllByRecursion}
 use Rattle.std.specs.Fmt.{signed_decimal}
 use Rattle.std.proofs.lemmas.List.{nil_from_length}
 use Rattle.point.specs.declared.solid.SolidRecord.{SolidRecord}
@@ -83,7 +83,7 @@ pub record Writes {A : Type 0} (f : Form A) (tx : A → List ℕ) (In : A → Ty
   pub endless : Endless f
 
 module _ {A : Type 0} (f : Form A) (tx : A → List ℕ) (In : A → Type 0) (w : Writes f tx In) where
-  times_only : (n : ℕ) {ps : List A} {bs : List ℕ} → Spelled (times n f) ps bs → (bs ≡ flat_map tx ps) × All In ps × (length ps ≡ n)
+  times_only : (n : ℕ) {ps : List A} {bs : List ℕ} → Spelled (times n f) ps bs → (bs ≡ flat_map tx ps) × AllByRecursion In ps × (length ps ≡ n)
   times_only zero s_gives = (refl, tt, refl)
   times_only (suc n) {ps} {bs} s =
       let t = two f (λ a. after (times n f) (λ rest. gives (a ∷ rest))) s in
@@ -93,9 +93,9 @@ module _ {A : Type 0} (f : Form A) (tx : A → List ℕ) (In : A → Type 0) (w 
       let i = times_only n u.first in
       let e : bs ≡ flat_map tx (t.a ∷ u.a) =
       t.whole ∙ (λ j. o.0 j ++ (u.whole ∙ (λ l. i.0 l ++ g.1 l) ∙ append-nil (flat_map tx u.a)) j) in
-      (e ∙ ap (flat_map tx) g.0, subst (All In) g.0 (o.1, i.1), ap length (sym g.0) ∙ ap suc i.2)
+      (e ∙ ap (flat_map tx) g.0, subst (AllByRecursion In) g.0 (o.1, i.1), ap length (sym g.0) ∙ ap suc i.2)
 
-  times_every : (ps : List A) → All In ps → Spelled (times (length ps) f) ps (flat_map tx ps)
+  times_every : (ps : List A) → AllByRecursion In ps → Spelled (times (length ps) f) ps (flat_map tx ps)
   times_every [] h = s_gives
   times_every (p ∷ ps) h =
       both (w.every p h.0) w.endless (λ a. after (times (length ps) f) (λ rest. gives (a ∷ rest)))
@@ -138,7 +138,7 @@ face_writes = record { only = λ s. go s; every = back; endless = λ k. endless_
         let o = times_only corner (λ v. blank ++ decimal v) (λ v. v ≤ 1048575) corner_writes k t.first in
         let n : length vs ≡ k = ap length (sym e.0) ∙ o.2 in (
           (λ j. decimal (sym n j) ++ (t.whole ∙ (λ i. (o.0 ∙ ap (flat_map (λ v. blank ++ decimal v)) e.0) i ++ e.1 i)) j),
-          (omega arith, omega arith, subst (All (λ v. v ≤ 1048575)) e.0 o.1),
+          (omega arith, omega arith, subst (AllByRecursion (λ v. v ≤ 1048575)) e.0 o.1),
         )
 
     back : (vs : List ℕ) → FaceIn vs → Spelled face_line vs (face_text vs)
@@ -154,7 +154,7 @@ record Faces (ps : List SolidRecord) (s : Sheet) (bs : List ℕ) : Type 0 where
   fs : List (List ℕ)
   is : record { points = ps; faces = fs } ≡ s
   text : bs ≡ faces_text fs
-  within : All FaceIn fs
+  within : AllByRecursion FaceIn fs
   few : length fs ≤ 1048576
 
 faces_only : {ps : List SolidRecord} {s : Sheet} {bs : List ℕ} → Spelled (faced ps) s bs → Faces ps s bs

@@ -1,6 +1,6 @@
 -- The form of a sheet, and how a sheet is written.
 use Rattle.std.specs.Prelude.{ℕ, ◌≤◌, List, ◌++◌, length, codes, decimal}
-use Rattle.std.specs.List.{flat_map, AllByRecursion as All}
+use Rattle.std.specs.List.{flat_map, AllByRecursion}
 use Rattle.std.specs.Fmt.{signed_decimal}
 use Rattle.point.specs.declared.solid.SolidRecord.{SolidRecord}
 use Rattle.point.specs.Range.{InRange}
@@ -64,11 +64,11 @@ abbrev pub PointIn : SolidRecord → Type 0
 PointIn p = InRange p.x × InRange p.y × InRange p.z
 
 abbrev pub FaceIn : List ℕ → Type 0
-FaceIn vs = (1 ≤ length vs) × (length vs ≤ 64) × All (λ v. v ≤ 1048575) vs
+FaceIn vs = (1 ≤ length vs) × (length vs ≤ 64) × AllByRecursion (λ v. v ≤ 1048575) vs
 
 -- every number of the sheet is in its range
 pub record Ranged (s : Sheet) : Type 0 where
   pub few_points : length s.points ≤ 1048576
   pub few_faces : length s.faces ≤ 1048576
-  pub points_in : All PointIn s.points
-  pub faces_in : All FaceIn s.faces
+  pub points_in : AllByRecursion PointIn s.points
+  pub faces_in : AllByRecursion FaceIn s.faces

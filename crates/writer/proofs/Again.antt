@@ -1,6 +1,6 @@
 -- Of a mesh that was made from a sheet, that sheet is written.
 use Rattle.std.proofs.Common.{◌≡◌, ℕ, zero, suc, ◌+◌, ◌-◌, ◌<◌, ◌≤◌, Bool, true, false, List, [], ◌∷◌, ◌++◌, map, length, get_or, take, filter, sym, refl, ap, ◌∙◌, ⊎_elim, append_assoc, suc-add, zero-add, arith, length-append}
-use Rattle.std.specs.List.{range_with_len, AllByRecursion as All}
+use Rattle.std.specs.List.{range_with_len, AllByRecursion}
 use Rattle.std.proofs.lemmas.List.FromFn.{length-range_with_len, get_or-range_with_len, get_or-map-range_with_len, length-map-range_with_len, fill_by_all}
 use Rattle.std.proofs.lemmas.List.Elements.{filter-append}
 use Rattle.std.proofs.ByRecursion.{All-from_get_or, All-get_or}
@@ -27,7 +27,7 @@ counting_append a (suc j) k =
     ∙ ap (λ x. a ∷ x) (counting_append (a + 1) j k)
     ∙ ap (λ x. a ∷ (range_with_len (a + 1) j ++ range_with_len x k)) (let e : a + 1 + j ≡ a + suc j = omega arith in e)
 
-kept_none : (p : ℕ → Bool) (xs : List ℕ) → All (λ x. p x ≡ false) xs → filter p xs ≡ []
+kept_none : (p : ℕ → Bool) (xs : List ℕ) → AllByRecursion (λ x. p x ≡ false) xs → filter p xs ≡ []
 kept_none p [] a = refl
 kept_none p (x ∷ xs) a = cond-false (p x) (x ∷ filter p xs) (filter p xs) a.0 ∙ kept_none p xs a.1
 
@@ -65,7 +65,7 @@ run_leader f a (suc k) s e =
         (λ y. y)
         (cases_Bool (leads f (a + 1 + i)))
 
-    rest : All (λ x. leads f x ≡ false) (range_with_len (a + 1) k)
+    rest : AllByRecursion (λ x. leads f x ≡ false) (range_with_len (a + 1) k)
     rest =
         All-from_get_or (λ x. leads f x ≡ false) (range_with_len (a + 1) k) 0
         (λ i b.

@@ -1,6 +1,6 @@
 -- How long the text of a sheet is at most.
 use Rattle.std.proofs.Common.{◌≡◌, ℕ, zero, suc, ◌+◌, ◌*◌, ◌<◌, ◌≤◌, Bool, List, [], ◌∷◌, ◌++◌, length, get_or, ℤ, pos, negsuc, decimal, sym, refl, ap, ◌∙◌, subst, ⊎_elim, add-one, arith, length-append}
-use Rattle.std.specs.List.{flat_map, AllByRecursion as All}
+use Rattle.std.specs.List.{flat_map, AllByRecursion}
 use Rattle.std.specs.Fmt.{signed_decimal}
 use Rattle.std.proofs.lemmas.Fmt.{length-decimal-le, length_signed_le}
 use Rattle.std.proofs.lemmas.Bool.{cases_Bool, cond-true, cond-false}
@@ -34,7 +34,7 @@ point_long p i =
     let c = units_long p.z i.2 in
     simp length-append (omega arith)
 
-numbers_long : (vs : List ℕ) → All (λ v. v ≤ 1048575) vs → length (flat_map corner_text vs) ≤ 8 * length vs
+numbers_long : (vs : List ℕ) → AllByRecursion (λ v. v ≤ 1048575) vs → length (flat_map corner_text vs) ≤ 8 * length vs
 numbers_long [] b = omega arith
 numbers_long (v ∷ vs) b =
     let a : length (flat_map corner_text vs) ≤ 8 * length vs = numbers_long vs b.1 in

@@ -1,6 +1,6 @@
 -- Every number of a written sheet is within its limits.
 use Rattle.std.proofs.Common.{◌≡◌, ℕ, zero, suc, ◌+◌, ◌<◌, ◌≤◌, Bool, List, length, get_or, ℤ, Some, None, Option, sym, refl, ◌∙◌, subst, arith, lit≤}
-use Rattle.std.specs.List.{range_with_len, AllByRecursion as All}
+use Rattle.std.specs.List.{range_with_len, AllByRecursion}
 use Rattle.std.proofs.lemmas.List.FromFn.{length-range_with_len, get_or-range_with_len}
 use Rattle.std.proofs.ByRecursion.{All-from_get_or, All-map, all_kept_by}
 use Rattle.std.proofs.lemmas.List.{length-map}
@@ -44,7 +44,7 @@ meant_same r i = go (range_fault 0 zs) refl
     go (Some y) e = no_fault y (sym e ∙ range_none 0 zs all)
 
 -- what holds of every dart holds of those that lead
-pub leaders_all : (f : ℕ → ℕ) (n : ℕ) (P : ℕ → Type 0) → ((h : ℕ) → h < n → P h) → All P (leaders f n)
+pub leaders_all : (f : ℕ → ℕ) (n : ℕ) (P : ℕ → Type 0) → ((h : ℕ) → h < n → P h) → AllByRecursion P (leaders f n)
 unfolding leaders
 leaders_all f n P a =
     all_kept_by (leads f) P (range_with_len 0 n)

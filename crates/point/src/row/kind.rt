@@ -6,7 +6,6 @@ ghost use Rattle.point.specs.Made.{row_fault, Makes};
 ghost use Rattle.point.specs.Dealing.{handle_count, floor_of, gets, dealt, Shares};
 ghost use Rattle.point.specs.Rows.{count_of, numbers_of, sums_of, meant_by, mean_by};
 ghost use Rattle.point.specs.RowPoints.{row_laws};
-ghost use Rattle.std.proofs.Common.{rules};
 
 use crate::fault::PointFault;
 use crate::kind::PointKind;
@@ -144,7 +143,7 @@ impl PointKind for Pull {
 
     ghost lawful = { row_laws };
 
-    ghost counted = { Prim.search rules };
+    ghost counted = { λ s. s.few };
 
     fn coordinates() -> usize {
         HANDLES

@@ -5,7 +5,6 @@ ghost use Rattle.point.specs.Points.{mean_answer};
 ghost use Rattle.point.specs.Made.{range_fault, Makes};
 ghost use Rattle.point.specs.Solids.{three, count_of, numbers_of, sums_of, meant_by, mean_by, half_up, NearestEach};
 ghost use Rattle.point.specs.SolidPoints.{solid_laws};
-ghost use Rattle.std.proofs.Common.{rules};
 
 use crate::fault::PointFault;
 use crate::kind::PointKind;
@@ -92,7 +91,7 @@ impl PointKind for Solid {
 
     ghost lawful = { solid_laws };
 
-    ghost counted = { Prim.search rules };
+    ghost counted = { λ s. s.few };
 
     fn coordinates() -> usize {
         3

@@ -1,4 +1,4 @@
--- What `unitsOf` computes is what the rule says, and what the code's tests say of it.
+-- What `units_of` computes is what the rule says, and what the code's tests say of it.
 use Rattle.std.proofs.Common.{◌≡◌, ℕ, zero, suc, ◌*◌, ◌/◌, ◌%◌, ◌^◌, ◌<◌, ◌≤◌, Bool, true, false, cond, T, eqb, ltb, ℤ, pos, negsuc, ◌*ℤ◌, neg_ℤ, nat_abs, Ok, Err, Result, sym, refl, ap, ◌∙◌, subst, true≢false, le_of_suc-le-suc, div-lt_iff_lt-mul, zero-mul, mul-one, not-le_of_lt, arith, ltb-false, ltb-true, le-ltb, lt-ltb, eq-eqb, ne_eqb, eqb-true}
 use mathlib.Core.Bool.{false≢true}
 use native.Mathlib.Nat.{mul-mod_left, zero-div}

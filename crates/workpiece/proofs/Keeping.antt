@@ -19,7 +19,7 @@ use Rattle.workpiece.specs.declared.fault.WorkFault.TheVariants.{Short, NoDart, 
 use Rattle.workpiece.specs.declared.piece.Answer.TheVariants as An
 use Rattle.workpiece.specs.Reckoning.{common, Call, may_average, may_split, may_reach, after_average, after_split, after_place}
 use Rattle.workpiece.specs.Law.{opened_skin, Faithful, Work, work}
-use Rattle.workpiece.specs.Answers.{average_answer, split_answer, reach_answer, ok_mapped, done, count_answer, figure_of_lem}
+use Rattle.workpiece.specs.Answers.{average_answer, split_answer, reach_answer, ok_mapped, done, count_answer, figure_of}
 use Rattle.workpiece.specs.Outcomes.{Split, Averaged, Placed, ring_mean, Next}
 use Rattle.workpiece.specs.Calls.{Keeps, Tells, AverageDone, SplitDone, PlaceDone, ReadDone, CountDone}
 use Rattle.workpiece.proofs.Lists.{PlaceLaws, same_map}
@@ -282,5 +282,5 @@ module _ {S A X P Q : Type 0} (k : Ghosts S) (kd : Kind A X P Q) where
     told = λ R rest faith.
         let F : ℕ → Counts → Result Counts WorkFault = λ n c. cond (leb n (length t)) (Ok c) (Err (Short n)) in
         let e : r ≡ count_answer R.carrier (length t) = answer ∙ ap₂ F faith.carried.n (counting_same (work k w).carrier R.carrier law faith.carried) in
-        (r, refl, record { answer = e; figured = λ c q. ap figure_of_lem (count_ok R.carrier (length t) c (sym q ∙ e)) ∙ faith.figured });
+        (r, refl, record { answer = e; figured = λ c q. ap figure_of (count_ok R.carrier (length t) c (sym q ∙ e)) ∙ faith.figured });
   }

@@ -32,5 +32,5 @@ done (Ok x) = Ok tt
 done (Err e) = Err e
 
 -- vertices less edges plus faces, of what count answered
-abbrev pub figure_of_lem : Counts → ℤ
-figure_of_lem c = pos (c.vertices + c.faces) -ℤ pos c.edges
+abbrev pub figure_of : Counts → ℤ
+figure_of c = pos (c.vertices + c.faces) -ℤ pos c.edges

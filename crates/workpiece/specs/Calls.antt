@@ -14,7 +14,7 @@ use Rattle.workpiece.specs.declared.fault.WorkFault.{WorkFault}
 use Rattle.workpiece.specs.Outcomes.{Next, Split, Averaged, Placed}
 use Rattle.workpiece.specs.Reckoning.{Reckoning, Call, step, may_average, may_split, may_reach}
 use Rattle.workpiece.specs.Law.{Work, work, opened_skin, NearExact, Spanned, Faithful}
-use Rattle.workpiece.specs.Answers.{split_answer, average_answer, reach_answer, count_answer, ok_mapped, done, figure_of_lem}
+use Rattle.workpiece.specs.Answers.{split_answer, average_answer, reach_answer, count_answer, ok_mapped, done, figure_of}
 
 -- ---- answers beside a reckoning
 -- What read answers beside a reckoning R: it is accepted as R tells, and what it reads is near the exact fraction and in the span.
@@ -26,7 +26,7 @@ pub record ReadRight {P : Type 0} (numbers : P → Point) (d slack : ℕ) (R : R
 -- What count answers beside a reckoning R: the rings of its carrier, which give the figure of the mesh opened.
 pub record CountRight (R : Reckoning) (len : ℕ) (r : Result Counts WorkFault) : Type 0 where
   pub answer : r ≡ count_answer R.carrier len
-  pub figured : (c : Counts) → r ≡ Ok c → figure_of_lem c ≡ figure R.opened
+  pub figured : (c : Counts) → r ≡ Ok c → figure_of c ≡ figure R.opened
 
 -- The answer to a call is the one that the reckoning tells.
 abbrev pub Right : {P : Type 0} → (P → Point) → ℕ → ℕ → Reckoning → Call → Answer P → Type 0

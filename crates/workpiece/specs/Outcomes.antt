@@ -1,5 +1,5 @@
 -- What an accepted call makes of the workpiece, and of the table by the points that its places mean.
-use Rattle.std.specs.Prelude.{◌≡◌, ℕ, ◌+◌, ◌*◌, ◌/◌, ◌<◌, ◌≤◌, cond, List, [], map, length, get_or, ℤ, slice_index_or}
+use Rattle.std.specs.Prelude.{◌≡◌, ℕ, ◌+◌, ◌*◌, ◌/◌, ◌<◌, ◌≤◌, cond, List, [], map, length, ℤ, slice_index_or}
 use Rattle.mesh.specs.Mesh.{Mesh, Same, turn, ring, among}
 use Rattle.point.specs.Points.{Point, totals}
 use Rattle.workpiece.specs.Law.{Work}
@@ -18,7 +18,7 @@ pub record Split (n : ℕ) (before after : List Point) : Type 0 where
 
 -- the mean of the points of h's face ring
 abbrev pub ring_mean : ℕ → (ℕ → List ℤ → Point) → Mesh → List Point → ℕ → Point
-ring_mean d mean m table h = mean (length (ring m.next h)) (totals d (map (λ x. get_or table x []) (ring m.next h)))
+ring_mean d mean m table h = mean (length (ring m.next h)) (totals d (map (λ x. slice_index_or table x []) (ring m.next h)))
 
 -- each dart has the mean over its face ring
 pub record Averaged (d : ℕ) (mean : ℕ → List ℤ → Point) (m : Mesh) (before after : List Point) : Type 0 where

@@ -3,6 +3,7 @@
 
 ghost use Rattle.std.specs.Prelude.{◌≡◌, Some};
 ghost use Rattle.refusal.specs.Lines.{word, line};
+ghost use Rattle.refusal.specs.Refusals.{bare, with_whole};
 
 use std::fmt;
 
@@ -11,6 +12,28 @@ use std::fmt;
 pub struct Refusal {
     pub number: u32,
     pub value: Option<i128>,
+}
+
+impl Refusal {
+    // One that returns nothing.
+    pub fn bare(number: u32) -> Refusal
+        ensures { result ≡ bare number }
+    {
+        Refusal {
+            number,
+            value: None,
+        }
+    }
+
+    // One that returns a whole number.
+    pub fn with(number: u32, value: i128) -> Refusal
+        ensures { result ≡ with_whole number value }
+    {
+        Refusal {
+            number,
+            value: Some(value),
+        }
+    }
 }
 
 // The part of the works that declined.

@@ -1,13 +1,13 @@
--- A held skin that took the tables that closing filled is the sheet's.
-use Rattle.std.proofs.Common.{◌≡◌, ℕ, ◌<◌, List, get_or, Ok, sym, refl, ap, ◌∙◌, subst}
-use Rattle.std.proofs.lemmas.Bool.{false≢true}
+-- The skin of the tables that closing filled is the sheet's.
+use Rattle.std.proofs.Common.{◌≡◌, ℕ, ◌<◌, List, get_or, Ok, Result, sym, refl, ap, ◌∙◌, subst}
 use Rattle.mesh.specs.Mesh.{Same}
 use Rattle.mesh.specs.Tables.{tables}
 use Rattle.skin.specs.declared.table.TableSkin.{TableSkin}
 use Rattle.skin.specs.Meaning.{meaning}
 use Rattle.closing.specs.Sheet.{Sheet, darts, mesh}
 use Rattle.closing.specs.Law.{Skins}
-use Rattle.closing.specs.Causes.{places}
+use Rattle.closing.specs.declared.fault.SkinFault.{SkinFault}
+use Rattle.closing.specs.Causes.{places, Told}
 use Rattle.closing.specs.Verdict.{front}
 use Rattle.closing.specs.Closed.{Closed}
 use Rattle.closing.specs.Held.{Held}
@@ -31,11 +31,12 @@ module _ (s : Sheet) (a b c x y z : List ℕ) (n : ℕ) (k : Closed s a b c x y 
     twin = holds (mesh s).twin c z k.twin;
   }
 
-  pub taken : (old new : TableSkin) → meaning new ≡ tables n x y z → Held s (places s a b c) old new (Ok n)
-  taken old new e = record {
-    answer = k.answer;
-    told = k.told;
-    same = λ _. subst (λ m. Same m (mesh s)) (sym e) same;
-    skin = λ _. subst (Skins s) (sym e) skins;
-    kept = λ q. absurd (false≢true (sym q));
-  }
+  pub taken : (t : TableSkin) → meaning t ≡ tables n x y z → Held s (places s a b c) (Ok t)
+  taken t e =
+      let sized : ◌≡◌ {A = Result ℕ SkinFault} (Ok (meaning t).n) (Ok n) = ap (λ m. Ok m.n) e in
+      record {
+        answer = sized ∙ k.answer;
+        told = subst (Told s (places s a b c)) (sym sized) k.told;
+        same = λ u q. let same_one : u ≡ t = cc in subst (λ v. Same (meaning v) (mesh s)) (sym same_one) (subst (λ m. Same m (mesh s)) (sym e) same);
+        skin = λ u q. let same_one : u ≡ t = cc in subst (λ v. Skins s (meaning v)) (sym same_one) (subst (Skins s) (sym e) skins);
+      }

@@ -1,8 +1,9 @@
 pub mod Numbering
 mod Turning
 mod Lawful
-mod Heaps
+mod Precedence
 mod Scans
+mod Neighbours
 mod EdgeOrder
 mod VertexRings
 mod Verdicts

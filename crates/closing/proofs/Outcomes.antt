@@ -19,7 +19,8 @@ use Rattle.closing.proofs.Causes.{told_first}
 use Rattle.closing.specs.Closed.{or_zero, Closed, Tell}
 use Rattle.closing.specs.Verdict.{unless, judged, verdict, scant, clears, front, leaves}
 use Rattle.closing.proofs.Lawful.{Sound, closes}
-use Rattle.closing.proofs.Verdicts.{declined, passed, none_mapped, listed}
+use Rattle.std.specs.Option.{ok_or}
+use Rattle.closing.proofs.Verdicts.{never, declined, passed, none_mapped, listed}
 
 -- the same outcome with n to answer
 abbrev pub told : {A B : Type 0} → B → Result A SkinFault → Result B SkinFault
@@ -187,6 +188,19 @@ untouched s a b c y e still = record {
 }
 
 -- ---- what the code has in hand
+
+-- the tables as they were, and an answer
+abbrev pub Untouched : Sheet → List ℕ → List ℕ → List ℕ → Result ℕ SkinFault → Type 0
+Untouched s a b c r = Closed s a b c a b c r
+
+-- a count, or the fault in its place
+pub none_counted : (o : Option ℕ) (y : SkinFault) {e : SkinFault} → ok_or o y ≡ Err e → (None ≡ o) × (e ≡ y)
+none_counted None y w = (refl, let z = w in cc)
+none_counted (Some n) y w = never (sym w)
+
+pub counted : (o : Option ℕ) (y : SkinFault) {n : ℕ} → ok_or o y ≡ Ok n → Some n ≡ o
+counted None y w = never w
+counted (Some m) y {n} w = let z : m ≡ n = cc in ap Some (sym z)
 
 pub counted_none : (t : ℕ) → ◌≡◌ {A = Option ℕ} None (cond (ltb 1048576 t) None (Some t)) → 1048576 < t
 counted_none t e = ⊎_elim (λ y. ltb-true 1048576 t y) (λ y. let z : ◌≡◌ {A = Option ℕ} None (Some t) = e ∙ cond-false (ltb 1048576 t) None (Some t) y in let w : ◌≡◌ {A = ℕ} 0 1 = cc in absurd (omega arith)) (cases_Bool (ltb 1048576 t))

@@ -1,6 +1,6 @@
 -- Spreading, place by place.
-use Rattle.std.proofs.Common.{◌≡◌, ℕ, ◌+◌, ◌<◌, ◌≤◌, false, ◌||◌, ltb, ◌⊎◌, List, length, get_or, set, Some, None, Ok, Err, sym, refl, ap, ◌∙◌, subst, ⊎_elim, arith, length-set}
-use Rattle.std.proofs.lemmas.List.{get_or-set_same, get_or-set_other}
+use Rattle.std.proofs.Common.{◌≡◌, ℕ, ◌+◌, ◌-◌, ◌<◌, ◌≤◌, false, ◌||◌, ltb, ◌⊎◌, List, ◌++◌, length, get_or, take, drop, set, Some, None, Ok, Err, sym, refl, ap, ◌∙◌, subst, ⊎_elim, arith, length-set, length-drop, length-take-le}
+use Rattle.std.proofs.lemmas.List.{length-append, get_or_append_left, get_or-append_right, get_or-drop, get_or-set_same, get_or-set_other}
 use Rattle.std.proofs.lemmas.Bool.{cases_eq, cond-true, cond-false, lt-ltb, le-ltb, or_left, or_right, or_from, not-false, ltb-true}
 use Rattle.mesh.specs.Smallest.{smallest}
 use Rattle.mesh.proofs.Smallest.{none_below}
@@ -18,6 +18,17 @@ spread_more h cs ps old new x l s e =
           (λ (q : k ≡ h). ap (λ (m : ℕ). get_or (set new h x) m d) q ∙ get_or-set_same new h x d (omega arith) ∙ e d ∙ ap (λ (m : ℕ). get_or ps (get_or cs m 0) d) (sym q))
           (λ ne. get_or-set_other new h k x d ne ∙ s.front k d (omega arith)) (cases_eq k h);
       rest = λ k d u. get_or-set_other new h k x d (omega arith) ∙ s.rest k d (omega arith);
+    }
+
+-- what is spread over the first n places of a table is spread over the table
+pub spread_front : {X : Type 0} (n : ℕ) (cs : List ℕ) (ps old new : List X) → n ≤ length old → Spread n cs ps (take n old) new → Spread n cs ps old (new ++ drop n old)
+spread_front n cs ps old new l s =
+    let t : length new ≡ n = s.long ∙ length-take-le n old l in
+    let r : length (drop n old) ≡ length old - n = length-drop n old in
+    record {
+      long = length-append new (drop n old) ∙ omega arith;
+      front = λ k d u. get_or_append_left new (drop n old) d k (omega arith) ∙ s.front k d u;
+      rest = λ k d u. get_or-append_right new (drop n old) n k d t u ∙ get_or-drop n old (k - n) d ∙ ap (λ (m : ℕ). get_or old m d) (let q : n + (k - n) ≡ k = omega arith in q);
     }
 
 -- darts of one vertex ring have the same corner

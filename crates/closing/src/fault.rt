@@ -1,6 +1,6 @@
 // Why a sheet is not taken as a skin.
-ghost use Rattle.std.specs.Prelude.{◌≡◌};
-ghost use Rattle.refusal.specs.Refusals.{with as telling};
+ghost use Rattle.std.specs.Prelude.{◌≡◌, MatchOption};
+ghost use Rattle.closing.specs.declared.fault.SkinFault.{SkinFault};
 ghost use Rattle.closing.specs.Refusals.{refusal_of, refused_by};
 ghost use Rattle.closing.specs.declared.fault.SkinFault.TheVariants.{Text};
 
@@ -34,55 +34,40 @@ pub enum SkinFault {
     Crowded(u32),
 }
 
-impl SkinFault {
-    // The number of the cause and the value returned.
-    pub fn refusal(self) -> Refusal
-        ensures { result ≡ refusal_of self }
-    {
-        match self {
-            SkinFault::Text(fault) => fault.refusal(),
-            SkinFault::Short(places) => with(1, places),
-            SkinFault::TooMany => Refusal {
-                number: 5,
-                value: None,
-            },
-            SkinFault::Stray(dart) => with(10, dart),
-            SkinFault::Face(face) => Refusal {
-                number: 11,
-                value: Some(face as i128),
-            },
-            SkinFault::Twice(dart) => with(12, dart),
-            SkinFault::Met(dart) => with(13, dart),
-            SkinFault::Single(dart) => with(14, dart),
-            SkinFault::Bare(vertex) => with(15, vertex),
-            SkinFault::Several(vertex) => with(16, vertex),
-            SkinFault::Crowded(vertex) => with(17, vertex),
-        }
-    }
+// The number of the cause and the value returned.
+impl From<SkinFault> for Refusal {
+    ghost from_gives = { λ fault r. r ≡ refusal_of fault };
 
-    // The refusal with the layer that declined: a text fault is the text's.
-    pub fn refused(self) -> Refused
-        ensures { result ≡ refused_by self }
-    {
-        let layer = if let SkinFault::Text(_) = self {
-            Layer::Text
-        } else {
-            Layer::Skin
-        };
-        Refused {
-            refusal: self.refusal(),
-            layer,
+    fn from(fault: SkinFault) -> Refusal {
+        match fault {
+            SkinFault::Text(fault) => Refusal::from(fault),
+            SkinFault::Short(places) => Refusal::with(1, places as i128),
+            SkinFault::TooMany => Refusal::bare(5),
+            SkinFault::Stray(dart) => Refusal::with(10, dart as i128),
+            SkinFault::Face(face) => Refusal::with(11, face as i128),
+            SkinFault::Twice(dart) => Refusal::with(12, dart as i128),
+            SkinFault::Met(dart) => Refusal::with(13, dart as i128),
+            SkinFault::Single(dart) => Refusal::with(14, dart as i128),
+            SkinFault::Bare(vertex) => Refusal::with(15, vertex as i128),
+            SkinFault::Several(vertex) => Refusal::with(16, vertex as i128),
+            SkinFault::Crowded(vertex) => Refusal::with(17, vertex as i128),
         }
     }
 }
 
-// A refusal that returns a number.
-fn with(number: u32, value: u32) -> Refusal
-    ensures { result ≡ telling number value }
-{
-    Refusal {
-        number,
-        value: Some(value as i128),
+// The refusal with the layer that declined: a text fault is the text's.
+impl From<SkinFault> for Refused {
+    ghost from_gives = { λ fault r. r ≡ refused_by fault };
+
+    fn from(fault: SkinFault) -> Refused {
+        let layer = match fault {
+            SkinFault::Text(_) => Layer::Text,
+            _ => Layer::Skin,
+        };
+        Refused {
+            refusal: Refusal::from(fault),
+            layer,
+        }
     }
 }
 
@@ -91,5 +76,19 @@ impl From<TextFault> for SkinFault {
 
     fn from(fault: TextFault) -> SkinFault {
         Self::Text(fault)
+    }
+}
+
+// Declines for what was found, if anything was.
+pub(crate) fn none_or<T, F: FnOnce(T) -> SkinFault>(
+    found: Option<T>,
+    fault: F,
+) -> Result<(), SkinFault>
+    requires { F.IsAlwaysCallable fault }
+    ensures { MatchOption found (result ≡ Ok tt) (λ x. (e : SkinFault) × F.post fault x e × (result ≡ Err e)) }
+{
+    match found {
+        Some(x) => Err(fault(x)),
+        None => Ok(()),
     }
 }

@@ -1,4 +1,4 @@
-// Closing a sheet into a table skin that is held.
+// Closing a sheet into a table skin.
 ghost use Rattle.closing.specs.Sheet.{sheet};
 ghost use Rattle.closing.specs.Causes.{places};
 ghost use Rattle.closing.specs.Held.{Held};
@@ -7,19 +7,17 @@ use crate::fault::SkinFault;
 use crate::tables::close;
 use skin::table::TableSkin;
 
-// Closes the sheet and puts its skin in the place of the one held, which stays where the sheet is declined; answers how many darts it has.
+// Closes the sheet, and answers its skin over the tables that are lent. (Three parameters, as for `close`.)
 pub fn close_skin<'a>(
-    held: &mut TableSkin<'a>,
     points: u32,
     lengths: &[u32],
     corners: &[u32],
     next: &'a mut [u32],
     prev: &'a mut [u32],
     twin: &'a mut [u32],
-) -> Result<u32, SkinFault>
-    ensures { Held (sheet points lengths.now corners.now) (places (sheet points lengths.now corners.now) next.old prev.old twin.old) held.old held.new result }
+) -> Result<TableSkin<'a>, SkinFault>
+    ensures { Held (sheet points lengths.now corners.now) (places (sheet points lengths.now corners.now) next.old prev.old twin.old) result }
 {
     let n = close(points, lengths, corners, next, prev, twin)?;
-    held.adopt(n, next, prev, twin).unwrap();
-    Ok(n)
+    Ok(TableSkin::new(n, next, prev, twin).unwrap())
 }

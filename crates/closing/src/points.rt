@@ -3,7 +3,7 @@ ghost use Rattle.std.specs.Prelude.{◌≡◌, true, false, length, is_ok};
 ghost use Rattle.closing.specs.Spread.{told as outcome, Spread, Alike};
 
 use crate::faces::first_stray;
-use crate::fault::SkinFault;
+use crate::fault::{SkinFault, none_or};
 
 // Copies each corner's point to its dart.
 pub fn spread<T: Copy>(
@@ -21,11 +21,9 @@ pub fn spread<T: Copy>(
     if corners.len() < size || table.len() < size {
         return Err(SkinFault::Short(n));
     }
-    if let Some(h) = first_stray(points.len(), n, corners) {
-        return Err(SkinFault::Stray(h));
-    }
-    for h in 0..size {
-        table[h] = points[corners[h] as usize];
+    none_or(first_stray(points.len(), n, corners), SkinFault::Stray)?;
+    for (h, place) in table[..size].iter_mut().enumerate() {
+        *place = points[corners[h] as usize];
     }
     Ok(())
 }

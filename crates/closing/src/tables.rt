@@ -3,11 +3,12 @@ ghost use Rattle.closing.specs.Sheet.{sheet};
 ghost use Rattle.closing.specs.Closed.{Closed};
 
 use crate::faces::{count, first_odd};
-use crate::fault::SkinFault;
+use crate::fault::{SkinFault, none_or};
 use crate::judge::settle;
 use crate::parts::Parts;
 
 // Numbers the darts corner by corner and fills next, prev and twin; answers how many there are.
+// The tables are three parameters, since a contract cannot say what a struct of `&mut` slices leaves in each.
 pub fn close<'a>(
     points: u32,
     lengths: &'a [u32],
@@ -18,12 +19,8 @@ pub fn close<'a>(
 ) -> Result<u32, SkinFault>
     ensures { Closed (sheet points lengths.now corners.now) next.old prev.old twin.old next.new prev.new twin.new result }
 {
-    if let Some(f) = first_odd(lengths) {
-        return Err(SkinFault::Face(f));
-    }
-    let Some(n) = count(lengths) else {
-        return Err(SkinFault::TooMany);
-    };
+    none_or(first_odd(lengths), SkinFault::Face)?;
+    let n = count(lengths).ok_or(SkinFault::TooMany)?;
     let size = n as usize;
     if corners.len() < size || next.len() < size || prev.len() < size || twin.len() < size {
         return Err(SkinFault::Short(n));

@@ -17,11 +17,12 @@ use Rattle.sheet.specs.Read.{Tables, sizes, sized, stored, settled, holding, Rea
 use Rattle.sheet.proofs.Forms.{never, ok_is}
 use Rattle.closing.specs.declared.fault.SkinFault.{SkinFault}
 use Rattle.closing.specs.Sheet.{Sheet, sheet, mesh}
+use Rattle.closing.specs.Drawing.{drawn}
 use Rattle.closing.specs.Causes.{places}
-use Rattle.closing.specs.Held.{Held}
+use Rattle.closing.specs.Held.{Held, counted as sized_by}
 use Rattle.closing.specs.Verdict.{verdict}
 use Rattle.intake.specs.Figures.{figure_of}
-use Rattle.intake.specs.Surveys.{drawn, ample, counted, closed_to, survey_of, Holding}
+use Rattle.intake.specs.Surveys.{ample, counted, closed_to, survey_of, Holding}
 
 -- what was judged to have sizes is a sheet of these sizes
 pub judged : (n : Sizes) (x : Result (text.Sheet × ℕ) TextFault) → sized x ≡ Ok n → (s : text.Sheet × ℕ) × (x ≡ Ok s) × (n ≡ sizes s.0)
@@ -81,19 +82,19 @@ module _ (bytes : List ℕ) (n : Sizes) (t u : Tables) (r : Result Sizes TextFau
       let k = ap (λ z. min z.corners 1048576) sizes_are in
       λ i. record { corners = length (corners_are i); next = (x ∙ k) i; prev = (y ∙ k) i; twin = (z ∙ k) i }
 
-  -- what closing it into a held skin leaves there
+  -- what closing it answers
   pub holds : (x y z : List ℕ) → length x ≡ min n.corners 1048576 → length y ≡ min n.corners 1048576 → length z ≡ min n.corners 1048576
-      → (old new : TableSkin) (q : Result ℕ SkinFault)
-      → Held (sheet n.points u.lengths u.corners) (places (sheet n.points u.lengths u.corners) x y z) old new q
-      → Holding bytes new q
-  holds x y z a b d old new q k = go q refl
+      → (q : Result TableSkin SkinFault)
+      → Held (sheet n.points u.lengths u.corners) (places (sheet n.points u.lengths u.corners) x y z) q
+      → Holding bytes q
+  holds x y z a b d q k = go q refl
     where
-      answer : q ≡ verdict (drawn read) (ample (drawn read))
+      answer : sized_by q ≡ verdict (drawn read) (ample (drawn read))
       answer = k.answer ∙ (λ i. verdict (drawn_so i) (ample_so (length x) (length y) (length z) a b d i))
 
-      go : (w : Result ℕ SkinFault) → q ≡ w → Holding bytes new w
-      go (Ok m) e =
-          let same = subst (λ (v : Sheet). Same (meaning new) (mesh v)) drawn_so (k.same (ap is_ok e)) in
-          surveyed ∙ ap (counted (drawn read)) (sym answer ∙ e)
-          ∙ ap (λ (v : Counts). Ok (record { darts = m; counts = v; figure = figure_of v })) (sym (counting_same (meaning new) (mesh (drawn read)) (k.skin (ap is_ok e)).lawful same))
-      go (Err f) e = surveyed ∙ ap (counted (drawn read)) (sym answer ∙ e)
+      go : (w : Result TableSkin SkinFault) → q ≡ w → Holding bytes w
+      go (Ok skin) e =
+          let same = subst (λ (v : Sheet). Same (meaning skin) (mesh v)) drawn_so (k.same skin e) in
+          surveyed ∙ ap (counted (drawn read)) (sym answer ∙ ap sized_by e)
+          ∙ ap (λ (v : Counts). Ok (record { darts = (meaning skin).n; counts = v; figure = figure_of v })) (sym (counting_same (meaning skin) (mesh (drawn read)) (k.skin skin e).lawful same))
+      go (Err f) e = surveyed ∙ ap (counted (drawn read)) (sym answer ∙ ap sized_by e)

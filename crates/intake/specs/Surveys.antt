@@ -1,5 +1,5 @@
 -- What a text closes to.
-use Rattle.std.specs.Prelude.{◌≡◌, ℕ, min, List, map, length, Ok, Err, Result}
+use Rattle.std.specs.Prelude.{◌≡◌, ℕ, min, List, length, Ok, Err, Result}
 use Rattle.mesh.specs.Mesh.{Mesh}
 use Rattle.skin.specs.Counts.{counting}
 use Rattle.skin.specs.Meaning.{meaning}
@@ -9,17 +9,14 @@ use Rattle.sheet.specs.Form.{judge}
 use Rattle.sheet.specs.Sheet as text
 use Rattle.closing.specs.declared.fault.SkinFault.{SkinFault}
 use Rattle.closing.specs.declared.fault.SkinFault.TheVariants.{Text}
-use Rattle.closing.specs.Sheet.{Sheet, sheet, mesh}
+use Rattle.closing.specs.Sheet.{Sheet, mesh}
+use Rattle.closing.specs.Drawing.{drawn}
 use Rattle.closing.specs.Causes.{Places}
 use Rattle.closing.specs.Verdict.{verdict}
 use Rattle.intake.specs.declared.survey.Survey.{Survey}
 use Rattle.intake.specs.Figures.{figure_of}
 use Rattle.intake.specs.declared.fault.IntakeFault.{IntakeFault}
 use Rattle.intake.specs.declared.fault.IntakeFault.TheVariants.{Skin, Memory}
-
--- a sheet as closing takes it: how many points, how long each face is, and all corners
-abbrev pub drawn : text.Sheet → Sheet
-drawn s = sheet (length s.points) (map length s.faces) (text.corners_of s.faces)
 
 -- tables with a place for each corner, up to the most darts that a skin may have
 abbrev pub ample : Sheet → Places
@@ -42,10 +39,10 @@ closed_to (Err fault) = Err (Text fault)
 abbrev pub survey_of : List ℕ → Result Survey SkinFault
 survey_of bytes = closed_to (judge text.sheet bytes 0)
 
--- a skin is held whose counts are those, or the fault is told
-abbrev pub Holding : List ℕ → TableSkin → Result ℕ SkinFault → Type 0
-Holding bytes held (Ok n) = survey_of bytes ≡ Ok (survey n (meaning held))
-Holding bytes held (Err fault) = survey_of bytes ≡ Err fault
+-- a skin whose counts are those, or the fault
+abbrev pub Holding : List ℕ → Result TableSkin SkinFault → Type 0
+Holding bytes (Ok skin) = survey_of bytes ≡ Ok (survey (meaning skin).n (meaning skin))
+Holding bytes (Err fault) = survey_of bytes ≡ Err fault
 
 -- that is what is answered, unless memory runs out
 abbrev pub Surveyed : List ℕ → Result Survey IntakeFault → Type 0

@@ -19,18 +19,22 @@ fn bytes_of(rt: &HostRuntime, name: &str) -> anyhow::Result<Vec<u8>> {
     Ok(fs::read(rt, name)?)
 }
 
+// Prints what is found in a file, or in standard input where the name is `-`.
+fn print_found(rt: &HostRuntime, name: &str) -> anyhow::Result<()> {
+    let text = bytes_of(rt, name)?;
+    rt.print(said(rt.alloc(), text.as_slice())?)?;
+    Ok(())
+}
+
 // Prints what is found in each file that is named, or in standard input where none is.
 fn run(rt: &HostRuntime) -> anyhow::Result<()> {
-    let mut named = false;
-    for name in env::args(rt)?.skip(1) {
-        named = true;
-        let text = bytes_of(rt, name.as_str())?;
-        println!(rt; "==> {name} <==")?;
-        rt.print(said(rt.alloc(), text.as_slice())?)?;
+    let mut names = env::args(rt)?.skip(1).peekable();
+    if names.peek().is_none() {
+        return print_found(rt, "-");
     }
-    if !named {
-        let text = bytes_of(rt, "-")?;
-        rt.print(said(rt.alloc(), text.as_slice())?)?;
+    for name in names {
+        println!(rt; "==> {name} <==")?;
+        print_found(rt, name.as_str())?;
     }
     Ok(())
 }

@@ -1,16 +1,16 @@
 // What the intake says of a text: what its sheet closes to, or why it is declined.
 ghost use Rattle.std.specs.Prelude.{◌≡◌, IfOk, Some};
 ghost use Rattle.std.specs.String.{string_bytes};
-ghost use Rattle.intake.specs.Reports.{report_of, report_text, refused_by, tally_text};
+ghost use Rattle.intake.specs.Reports.{report_of, report_text, tally_text};
 
 use crate::fault::IntakeFault;
 use crate::survey::{Survey, close_text};
-use closing::fault::SkinFault;
-use refusal::{Layer, Refused};
+use refusal::Refused;
 use skin::count::Counts;
 use std::alloc::{AllocError, Global};
 use std::fmt;
 
+// (A type of its own and no `Result`, so that it can say how it is printed.)
 #[derive(Clone, Copy)]
 pub enum Report {
     // the sheet closes
@@ -53,26 +53,13 @@ impl fmt::Display for Report {
     }
 }
 
-// The refusal of a fault, with the layer that declined: a text fault is the text's.
-fn declined(fault: SkinFault) -> Refused
-    ensures { result ≡ refused_by fault }
-{
-    let refusal = fault.refusal();
-    let layer = if let SkinFault::Text(_) = fault {
-        Layer::Text
-    } else {
-        Layer::Skin
-    };
-    Refused { refusal, layer }
-}
-
 // What is found in a text.
 pub fn found(heap: Global, text: &[u8]) -> Result<Report, AllocError>
     ensures { IfOk result (λ x. x ≡ report_of text.now) }
 {
     match close_text(heap, text) {
         Ok(found) => Ok(Report::Closed(found)),
-        Err(IntakeFault::Skin(fault)) => Ok(Report::Declined(declined(fault))),
+        Err(IntakeFault::Skin(fault)) => Ok(Report::Declined(Refused::from(fault))),
         Err(IntakeFault::Memory) => Err(AllocError),
     }
 }

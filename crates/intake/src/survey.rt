@@ -13,7 +13,9 @@ use mesh::DARTS;
 use point::solid::SolidRecord;
 use sheet::read::{read_sheet, sheet_sizes};
 use sheet::record::Sizes;
+use sheet::tables::SheetTables;
 use skin::count::{Counts, count};
+use skin::skin::Skin;
 use skin::table::TableSkin;
 use std::alloc::Global;
 
@@ -28,29 +30,35 @@ pub struct Survey {
 fn figure(counts: Counts) -> i64
     ensures { result ≡ figure_of counts }
 {
-    counts.vertices as i64 - counts.edges as i64 + counts.faces as i64
+    i64::from(counts.vertices) - i64::from(counts.edges) + i64::from(counts.faces)
 }
 
-// Reads the sheet that a text is into tables of its sizes, closes it and puts its skin in the place of the one held.
+// Reads the sheet that a text is into tables of its sizes, and closes it. (The dart tables are three parameters, as for closing.)
 fn closed<'a>(
-    held: &mut TableSkin<'a>,
     text: &[u8],
     sizes: Sizes,
-    points: &mut [SolidRecord],
-    lengths: &mut [u32],
-    corners: &mut [u32],
+    mut tables: SheetTables<'_>,
     next: &'a mut [u32],
     prev: &'a mut [u32],
     twin: &'a mut [u32],
-) -> Result<u32, SkinFault>
+) -> Result<TableSkin<'a>, SkinFault>
     requires sizes { sized (judge sheet text.now 0) ≡ Ok sizes }
-    requires sheet { (length points.old ≡ sizes.points) × (length lengths.old ≡ sizes.faces) × (length corners.old ≡ sizes.corners) }
-    requires darts { (length next.old ≡ min sizes.corners 1048576) × (length prev.old ≡ min sizes.corners 1048576) × (length twin.old ≡ min sizes.corners 1048576) }
-    ensures { Holding text.now held.new result }
+    requires points { length tables.points.now ≡ sizes.points }
+    requires lengths { length tables.lengths.now ≡ sizes.faces }
+    requires corners { length tables.corners.now ≡ sizes.corners }
+    requires next { length next.old ≡ min sizes.corners 1048576 }
+    requires prev { length prev.old ≡ min sizes.corners 1048576 }
+    requires twin { length twin.old ≡ min sizes.corners 1048576 }
+    ensures { Holding text.now result }
 {
-    read_sheet(text, 0, points, lengths, corners)?;
+    read_sheet(text, 0, &mut tables)?;
     let named = sizes.points as u32;
-    close_skin(held, named, lengths, corners, next, prev, twin)
+    let SheetTables {
+        points: _,
+        lengths,
+        corners,
+    } = tables;
+    close_skin(named, lengths, corners, next, prev, twin)
 }
 
 // Reads the sheet that a text is, closes it and counts, in tables as long as the sheet wants.
@@ -65,23 +73,16 @@ pub fn close_text(heap: Global, text: &[u8]) -> Result<Survey, IntakeFault>
     let mut next = vec![in heap; 0u32; places]?;
     let mut prev = vec![in heap; 0u32; places]?;
     let mut twin = vec![in heap; 0u32; places]?;
-    let mut skin = TableSkin::empty();
-    let darts = closed(
-        &mut skin,
-        text,
-        sizes,
-        &mut points,
-        &mut lengths,
-        &mut corners,
-        &mut next,
-        &mut prev,
-        &mut twin,
-    )?;
+    let tables = SheetTables {
+        points: &mut points,
+        lengths: &mut lengths,
+        corners: &mut corners,
+    };
+    let skin = closed(text, sizes, tables, &mut next, &mut prev, &mut twin)?;
     let counts = count(&skin);
-    let figure = figure(counts);
     Ok(Survey {
-        darts,
+        darts: skin.n(),
         counts,
-        figure,
+        figure: figure(counts),
     })
 }

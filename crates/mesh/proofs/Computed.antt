@@ -1,6 +1,6 @@
 -- The counts of meshes written out, computed.
-use Rattle.std.proofs.Common.{◌≡◌, refl}
-use Rattle.mesh.specs.Mesh.{times, walk, ring}
+use Rattle.std.proofs.Common.{refl}
+use Rattle.mesh.specs.Mesh.{walk, ring}
 use Rattle.mesh.specs.Count.{sum}
 use Rattle.mesh.specs.Examples.{Figures}
 

@@ -1,16 +1,16 @@
 -- The counts of Dual, Quad and split.
-use Rattle.std.proofs.Common.{◌≡◌, ℕ, zero, suc, ◌+◌, ◌*◌, ◌/◌, ◌%◌, ◌<◌, ◌≤◌, Bool, true, false, cond, leb, ◌⊎◌, length, ℤ, pos, ◌-ℤ◌, Decides, sym, refl, ap, ◌∙◌, subst, ap₂, inl, inr, ⊎_elim, arith}
+use Rattle.std.proofs.Common.{◌≡◌, ℕ, ◌+◌, ◌*◌, ◌/◌, ◌<◌, ◌≤◌, Bool, true, false, leb, ◌⊎◌, length, pos, ◌-ℤ◌, Decides, sym, refl, ap, ◌∙◌, ap₂, inl, inr, arith}
 use Rattle.std.proofs.lemmas.Bool.Decides.{nat_tests}
 use Rattle.std.proofs.lemmas.Int.{ints}
 use Rattle.std.proofs.lemmas.Bool.{cond-true, le-leb}
 use Rattle.mesh.specs.Mesh.{Mesh, Lawful, Same, ring, turn, dual, quad}
 use Rattle.mesh.specs.Count.{sum, bit, leads, rings, faces, vertices, edges, figure, split, DualCounts, QuadCounts, SplitCounts}
-use Rattle.mesh.proofs.Rings.{Keeps, inverse_long}
-use Rattle.mesh.proofs.DualLaws.{turn_below, dual_lawful, dual_turn}
+use Rattle.mesh.proofs.Rings.{inverse_long}
+use Rattle.mesh.proofs.DualLaws.{turn_below, dual_turn}
 use Rattle.mesh.proofs.QuadLaws.{quad_lawful, next0, next1, next2, next3, turn0, turn1, turn2, turn3}
 use Rattle.mesh.proofs.QuadRings.{quad_vertex, quad_middle}
 use Rattle.mesh.proofs.Sums.{Swaps, sum_same, sum_add, sum_zero, sum_one, sum_moved, sum_four}
-use Rattle.mesh.proofs.Leads.{leads_same, leads_along, leads_back, rings_same, Four, four_next, decides_four, vertices_same, faces_same}
+use Rattle.mesh.proofs.Leads.{leads_along, leads_back, rings_same, Four, four_next, decides_four, vertices_same, faces_same}
 
 -- ---- dual
 pub vertices_dual : (m : Mesh) → Lawful m → vertices (dual m) ≡ faces m

@@ -6,6 +6,7 @@ pub mod QuadRings
 pub mod Same
 pub mod Sums
 pub mod Leads
+pub mod Leaders
 pub mod Figures
 pub mod Once
 pub mod Grid

@@ -1,6 +1,6 @@
 -- The rank of a marked number: how many marked ones stand below it.
 use Rattle.std.proofs.Common.{◌≡◌, ℕ, zero, suc, ◌+◌, ◌<◌, ◌≤◌, Bool, true, false, sym, refl, ap, ◌∙◌, ⊎_elim, add-one, arith}
-use Rattle.std.proofs.lemmas.Bool.{cases_eq, cases_lt, false≢true}
+use Rattle.std.proofs.lemmas.Bool.{cases_eq, cases_lt}
 use Rattle.mesh.specs.Count.{count, bit}
 use Rattle.mesh.proofs.Leads.{count_none, count_more}
 

@@ -1,5 +1,5 @@
 -- The vertices and faces that a split makes.
-use Rattle.std.proofs.Common.{◌≡◌, ℕ, zero, suc, ◌+◌, ◌*◌, ◌<◌, ◌≤◌, List, [], ◌∷◌, map, length, sym, refl, ap, ◌∙◌, subst, arith}
+use Rattle.std.proofs.Common.{◌≡◌, ℕ, zero, suc, ◌+◌, ◌*◌, ◌<◌, ◌≤◌, ◌∷◌, map, length, sym, refl, ap, ◌∙◌, arith}
 use Rattle.mesh.specs.Mesh.{Mesh, Lawful, times, turn, ring, quad}
 use Rattle.mesh.specs.Count.{split}
 use Rattle.mesh.specs.Shapes.{four_of, SplitShape}

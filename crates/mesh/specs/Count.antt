@@ -1,5 +1,6 @@
 -- Counting the rings of a mesh: each ring is counted at its smallest dart.
-use Rattle.std.specs.Prelude.{◌≡◌, ℕ, zero, suc, ◌+◌, ◌*◌, ◌/◌, ◌<◌, ◌≤◌, Bool, true, false, ℤ, pos, ◌-ℤ◌}
+use Rattle.std.specs.Prelude.{◌≡◌, ℕ, zero, suc, ◌+◌, ◌-◌, ◌*◌, ◌/◌, ◌<◌, ◌≤◌, Bool, true, false, List, [], ◌∷◌, filter, Option, MatchOption, ℤ, pos, ◌-ℤ◌}
+use Rattle.std.specs.List.{range_with_len}
 use Rattle.mesh.specs.Mesh.{Mesh, times, turn, ring, dual, quad, floor}
 
 -- 1 for yes, 0 for no
@@ -19,6 +20,18 @@ count p n = sum (λ h. bit (p h)) n
 -- no dart of the ring of h is smaller than h
 abbrev pub leads : (ℕ → ℕ) → ℕ → Bool
 leads f h = floor h (ring f h)
+
+-- the darts below n that lead their rings under f, in order
+unfoldable pub leaders : (ℕ → ℕ) → ℕ → List ℕ
+leaders f n = filter (leads f) (range_with_len 0 n)
+
+-- those of them from dart a on
+unfoldable pub leaders_from : (ℕ → ℕ) → ℕ → ℕ → List ℕ
+leaders_from f n a = filter (leads f) (range_with_len a (n - a))
+
+-- r is the first of them, and the others are those from the dart after it on; or there is none
+abbrev pub Leader : (ℕ → ℕ) → ℕ → ℕ → Option ℕ → Type 0
+Leader f n a r = MatchOption r (leaders_from f n a ≡ []) (λ h. (h < n) × (leaders_from f n a ≡ h ∷ leaders_from f n (h + 1)))
 
 -- the rings of f among the darts below n
 abbrev pub rings : (ℕ → ℕ) → ℕ → ℕ

@@ -1,5 +1,5 @@
 -- Meshes written out, and their counts.
-use Rattle.std.specs.Prelude.{◌≡◌, ℕ, List, [], ◌∷◌}
+use Rattle.std.specs.Prelude.{◌≡◌, ℕ, [], ◌∷◌}
 use Rattle.mesh.specs.Mesh.{Mesh, dual}
 use Rattle.mesh.specs.Tables.{tables}
 use Rattle.mesh.specs.Cells.{torus}

@@ -17,7 +17,7 @@ pub enum ScaleFault {
 // Why an order is declined.
 #[derive(Clone, Copy, PartialEq, Eq, Debug)]
 pub enum OrderFault {
-    // the value for this coordinate, counted from 0, stands for no units
+    // the value for this coordinate stands for no units; counted from 0, as in a fault of a point, whose kind may have any number
     Value(usize, ScaleFault),
     // the units make no point
     Point(PointFault),
@@ -31,19 +31,16 @@ impl From<PointFault> for OrderFault {
     }
 }
 
-impl OrderFault {
-    pub fn refusal(self) -> Refusal
-        ensures { result ≡ refusal_of self }
-    {
-        let (number, coordinate) = match self {
-            OrderFault::Value(i, ScaleFault::NotNumber) => (18, i),
-            OrderFault::Value(i, ScaleFault::Beyond) => (3, i),
-            OrderFault::Value(i, ScaleFault::OffGrid) => (18, i),
-            OrderFault::Point(fault) => return fault.refusal(),
-        };
-        Refusal {
-            number,
-            value: Some(coordinate as i128),
+impl From<OrderFault> for Refusal {
+    ghost from_gives = { λ f r. r ≡ refusal_of f };
+
+    fn from(fault: OrderFault) -> Refusal {
+        match fault {
+            OrderFault::Value(i, ScaleFault::NotNumber | ScaleFault::OffGrid) => {
+                Refusal::with(18, i as i128)
+            }
+            OrderFault::Value(i, ScaleFault::Beyond) => Refusal::with(3, i as i128),
+            OrderFault::Point(fault) => Refusal::from(fault),
         }
     }
 }

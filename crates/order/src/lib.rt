@@ -35,20 +35,18 @@ pub enum Order {
 fn coordinate(mm: f64, at: usize) -> Result<i32, OrderFault>
     ensures { MeasuredAt at mm result }
 {
-    match units(mm) {
-        Ok(u) => Ok(u),
-        Err(fault) => Err(OrderFault::Value(at, fault)),
-    }
+    units(mm).map_err(|fault| OrderFault::Value(at, fault))
 }
 
-impl Millimetres {
-    // The point of these millimetres.
-    fn point(self) -> Result<SolidPoint, OrderFault>
-        ensures { TheOne (PutTo self) result }
-    {
-        let x = coordinate(self.x, 0)?;
-        let y = coordinate(self.y, 1)?;
-        let z = coordinate(self.z, 2)?;
+impl TryFrom<Millimetres> for SolidPoint {
+    type Error = OrderFault;
+
+    ghost try_from_gives = { λ mm r. TheOne (PutTo mm) r };
+
+    fn try_from(mm: Millimetres) -> Result<SolidPoint, OrderFault> {
+        let x = coordinate(mm.x, 0)?;
+        let y = coordinate(mm.y, 1)?;
+        let z = coordinate(mm.z, 2)?;
         Ok(SolidPoint::new(x, y, z)?)
     }
 }
@@ -67,7 +65,7 @@ impl Order {
         ensures { TheOne (Ordered self old) result }
     {
         match self {
-            Order::Put(to) => to.point(),
+            Order::Put(to) => SolidPoint::try_from(to),
             Order::Raise(mm) => raised(old, mm),
         }
     }
@@ -77,10 +75,7 @@ impl Order {
 fn told(mm: f64) -> Result<i32, Refusal>
     ensures { Told mm result }
 {
-    match coordinate(mm, 0) {
-        Ok(u) => Ok(u),
-        Err(fault) => Err(fault.refusal()),
-    }
+    coordinate(mm, 0).map_err(Refusal::from)
 }
 
 // The worked figures: what 0.5, 16,384, 0.1 and 16,384.5 mm are as x.
@@ -100,22 +95,14 @@ mod tests {
     }
 
     fn refused(number: u32, coordinate: i128) -> Result<[i32; 3], Refusal> {
-        Err(Refusal {
-            number,
-            value: Some(coordinate),
-        })
+        Err(Refusal::with(number, coordinate))
     }
 
     // Where an order puts a vertex that stands at (1, 2, z).
     fn ordered(order: Order, z: i32) -> Result<[i32; 3], Refusal> {
-        let target = match SolidPoint::new(1, 2, z) {
-            Ok(old) => order.target(old),
-            Err(fault) => Err(OrderFault::Point(fault)),
-        };
-        match target {
-            Ok(p) => Ok([p.x(), p.y(), p.z()]),
-            Err(fault) => Err(fault.refusal()),
-        }
+        let old = SolidPoint::new(1, 2, z).map_err(OrderFault::from)?;
+        let p = order.target(old)?;
+        Ok([p.x(), p.y(), p.z()])
     }
 
     #[test]

@@ -31,13 +31,13 @@ impl From<OrderFault> for VertexFault {
     }
 }
 
-impl VertexFault {
-    pub fn refusal(self) -> Refusal
-        ensures { result ≡ refusal_of self }
-    {
-        match self {
-            VertexFault::Work(fault) => fault.refusal(),
-            VertexFault::Value(fault) => fault.refusal(),
+impl From<VertexFault> for Refusal {
+    ghost from_gives = { λ f r. r ≡ refusal_of f };
+
+    fn from(fault: VertexFault) -> Refusal {
+        match fault {
+            VertexFault::Work(fault) => Refusal::from(fault),
+            VertexFault::Value(fault) => Refusal::from(fault),
         }
     }
 }

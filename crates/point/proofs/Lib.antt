@@ -1,3 +1,4 @@
 pub mod Casts
 pub mod RowSteps
 pub mod Shares
+pub mod Columns

@@ -1,12 +1,9 @@
 -- One turn of each loop over the handles.
-use Rattle.std.proofs.Common.{◌≡◌, ℕ, ◌+◌, ◌-◌, ◌<◌, ◌≤◌, List, [], ◌∷◌, ◌++◌, length, take, drop, set, ℤ, pos, ◌+ℤ◌, ◌*ℤ◌, sym, ap, ◌∙◌, subst, ap₂, ⊎_elim, arith}
+use Rattle.std.proofs.Common.{◌≡◌, ℕ, ◌+◌, ◌-◌, ◌<◌, ◌≤◌, List, [], ◌∷◌, ◌++◌, length, take, drop, set, ℤ, pos, ◌+ℤ◌, ◌*ℤ◌, sym, ap, ◌∙◌, ap₂, arith}
 use lib.IntN.{+ℤ_assoc, +ℤ_idl, +ℤ_idr}
 use borrow.Author.Differences.{ints}
-use Rattle.std.proofs.lemmas.List.{append-nil, append_assoc, take_all, take_more, take_more_set, drop_all, get_or_past, at_drop_more, get_or-set_other}
-use Rattle.std.proofs.lemmas.List.FromFn.{get_or-map-range_with_len, length-map-range_with_len}
-use Rattle.std.proofs.lemmas.Bool.{cases_lt}
+use Rattle.std.proofs.lemmas.List.{append-nil, append_assoc, take_all, take_more, take_more_set, drop_all, at_drop_more, get_or-set_other}
 use Rattle.std.proofs.lemmas.List.Edits.{fill_by_more}
-use Rattle.point.specs.Range.{InRange, Summed}
 use Rattle.point.specs.Points.{coordinate, total, one_more}
 use Rattle.point.specs.Listed.{total_one_more}
 use Rattle.point.specs.Dealing.{handle_count, row_whole, floor_of, gets, dealt}
@@ -39,15 +36,5 @@ pub deal_all : (k left m i : ℕ) (ts ws : List ℤ) → length ts ≤ i → len
 deal_all k left m i ts ws l n h = sym (append-nil ws) ∙ sym (ap₂ (λ (a b : List ℤ). a ++ dealt k left b) (take_all i ws n) (drop_all i ts l)) ∙ h
 
 -- ---- a sum with one row more
-pub sum_long : (ts ws : List ℤ) → length (one_more handle_count ts ws) ≡ handle_count
-sum_long ts ws = length-map-range_with_len (λ i. coordinate ts i +ℤ coordinate ws i) 0 handle_count
-
-pub sum_within : (n : ℕ) (ts ws : List ℤ) → ((i : ℕ) → Summed n (coordinate ts i)) → ((i : ℕ) → InRange (coordinate ws i)) → (i : ℕ) → Summed (n + 1) (coordinate (one_more handle_count ts ws) i)
-sum_within n ts ws s h i =
-    ⊎_elim
-    (λ l. subst (Summed (n + 1)) (sym (get_or-map-range_with_len (λ j. coordinate ts j +ℤ coordinate ws j) 0 handle_count i i (pos 0) l (omega arith))) (omega (arith, ints, s i, h i)))
-    (λ l. subst (Summed (n + 1)) (sym (get_or_past (one_more handle_count ts ws) i (pos 0) (rw (sum_long ts ws) l))) (omega arith))
-    (cases_lt i handle_count)
-
 pub sum_whole : (n : ℕ) (ts ws : List ℤ) → length ts ≡ handle_count → length ws ≡ handle_count → total ts ≡ pos n *ℤ row_whole → total ws ≡ row_whole → total (one_more handle_count ts ws) ≡ pos (n + 1) *ℤ row_whole
 sum_whole n ts ws l m e f = omega (arith, ints, total_one_more handle_count ts ws l m)

@@ -15,3 +15,4 @@ pub mod Whole
 pub mod Deals
 pub mod SolidPoints
 pub mod Rounding
+pub mod Columns

@@ -85,13 +85,13 @@ module _ (k : ℕ) (ts : List ℤ) (h : 0 < k) (l : length ts ≡ handle_count) 
       let d = dealt_at k (missing k ts) ts i (rw l f) in
       subst P (sym (ap (λ (zs : List ℤ). coordinate zs i) mean_numbers ∙ d.1)) (w d.0)
 
-pub mean_made : (s : PullSum) (p : PullRow) → 0 < s.count → p.weights ≡ dealt s.count (missing s.count s.totals) s.totals → Some p ≡ mean_answer mean_by s.count (sums_of s)
-mean_made s p h e = ap Some (row_at_lem p _ e) ∙ sym (cond-false (s.count == 0) None (Some (mean_by s.count (sums_of s))) (ne_eqb s.count 0 (λ z. omega arith)))
+pub mean_made : (s : PullSum) (p : PullRow) → 0 < s.tally.count → p.weights ≡ dealt s.tally.count (missing s.tally.count s.tally.totals) s.tally.totals → Some p ≡ mean_answer mean_by s.tally.count (sums_of s)
+mean_made s p h e = ap Some (row_at_lem p _ e) ∙ sym (cond-false (s.tally.count == 0) None (Some (mean_by s.tally.count (sums_of s))) (ne_eqb s.tally.count 0 (λ z. omega arith)))
 
-pub answer_shares : (s : PullSum) (p : PullRow) → 0 < s.count → mean_answer mean_by s.count (sums_of s) ≡ Some p → Shares s.count (sums_of s) (numbers_of p)
+pub answer_shares : (s : PullSum) (p : PullRow) → 0 < s.tally.count → mean_answer mean_by s.tally.count (sums_of s) ≡ Some p → Shares s.tally.count (sums_of s) (numbers_of p)
 answer_shares s p h e =
-    let m : mean_by s.count (sums_of s) ≡ p = cc (cond-false (s.count == 0) None (Some (mean_by s.count (sums_of s))) (ne_eqb s.count 0 (λ z. omega arith)), e) in
-    subst (λ (q : PullRow). Shares s.count (sums_of s) (numbers_of q)) m (mean_shares s.count s.totals h s.long s.ok s.whole)
+    let m : mean_by s.tally.count (sums_of s) ≡ p = cc (cond-false (s.tally.count == 0) None (Some (mean_by s.tally.count (sums_of s))) (ne_eqb s.tally.count 0 (λ z. omega arith)), e) in
+    subst (λ (q : PullRow). Shares s.tally.count (sums_of s) (numbers_of q)) m (mean_shares s.tally.count s.tally.totals h s.tally.long s.tally.ok s.whole)
 
 -- ---- the laws
 within : (p : PullRow) (i : ℕ) → InRange (coordinate (numbers_of p) i)

@@ -15,10 +15,10 @@ abbrev pub numbers_of : PullRow → List ℤ
 numbers_of p = p.weights
 
 abbrev pub sums_of : PullSum → List ℤ
-sums_of s = s.totals
+sums_of s = s.tally.totals
 
 abbrev pub count_of : PullSum → ℕ
-count_of s = s.count
+count_of s = s.tally.count
 
 -- all weight on one handle, counted from 0
 abbrev pub all_on : ℕ → List ℤ

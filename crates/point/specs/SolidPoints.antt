@@ -79,19 +79,13 @@ module _ (k : ℕ) (ts : List ℤ) (h : 0 < k) (s : (i : ℕ) → Summed k (coor
   pub mean_nearest : NearestEach k ts (mean_by k ts)
   mean_nearest i l = subst (Nearest k (coordinate ts i)) (sym (mean_at i l)) (half_nearest k h (coordinate ts i))
 
-sum_within : (s : SolidSum) (i : ℕ) → Summed s.count (coordinate (sums_of s) i)
-sum_within s zero = s.ok.0
-sum_within s (suc zero) = s.ok.1
-sum_within s (suc (suc zero)) = s.ok.2
-sum_within s (suc (suc (suc i))) = omega arith
+pub mean_made : (s : SolidSum) (p : SolidPoint) → 0 < s.tally.count → numbers_of p ≡ three (half_up s.tally.count (coordinate (sums_of s) 0)) (half_up s.tally.count (coordinate (sums_of s) 1)) (half_up s.tally.count (coordinate (sums_of s) 2)) → Some p ≡ mean_answer mean_by s.tally.count (sums_of s)
+mean_made s p h e = ap Some (point_at_lem p e) ∙ sym (cond-false (s.tally.count == 0) None (Some (mean_by s.tally.count (sums_of s))) (ne_eqb s.tally.count 0 (λ z. omega arith)))
 
-pub mean_made : (s : SolidSum) (p : SolidPoint) → 0 < s.count → numbers_of p ≡ three (half_up s.count s.x) (half_up s.count s.y) (half_up s.count s.z) → Some p ≡ mean_answer mean_by s.count (sums_of s)
-mean_made s p h e = ap Some (point_at_lem p e) ∙ sym (cond-false (s.count == 0) None (Some (mean_by s.count (sums_of s))) (ne_eqb s.count 0 (λ z. omega arith)))
-
-pub answer_nearest : (s : SolidSum) (p : SolidPoint) → 0 < s.count → mean_answer mean_by s.count (sums_of s) ≡ Some p → NearestEach s.count (sums_of s) p
+pub answer_nearest : (s : SolidSum) (p : SolidPoint) → 0 < s.tally.count → mean_answer mean_by s.tally.count (sums_of s) ≡ Some p → NearestEach s.tally.count (sums_of s) p
 answer_nearest s p h e =
-    let m : mean_by s.count (sums_of s) ≡ p = cc (cond-false (s.count == 0) None (Some (mean_by s.count (sums_of s))) (ne_eqb s.count 0 (λ z. omega arith)), e) in
-    subst (NearestEach s.count (sums_of s)) m (mean_nearest s.count (sums_of s) h (sum_within s))
+    let m : mean_by s.tally.count (sums_of s) ≡ p = cc (cond-false (s.tally.count == 0) None (Some (mean_by s.tally.count (sums_of s))) (ne_eqb s.tally.count 0 (λ z. omega arith)), e) in
+    subst (NearestEach s.tally.count (sums_of s)) m (mean_nearest s.tally.count (sums_of s) h s.tally.ok)
 
 -- ---- the laws
 pub solid_laws : KindLaws 3 1 numbers_of mean_by

@@ -17,10 +17,10 @@ abbrev pub numbers_of : SolidPoint → List ℤ
 numbers_of p = three p.x p.y p.z
 
 abbrev pub sums_of : SolidSum → List ℤ
-sums_of s = three s.x s.y s.z
+sums_of s = s.tally.totals
 
 abbrev pub count_of : SolidSum → ℕ
-count_of s = s.count
+count_of s = s.tally.count
 
 abbrev pub origin : SolidPoint
 origin = record { x = pos 0; y = pos 0; z = pos 0; ok = (lit≤ tt, lit≤ tt, lit≤ tt) }

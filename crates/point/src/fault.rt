@@ -12,19 +12,13 @@ pub enum PointFault {
     RowTotal(i64),
 }
 
-impl PointFault {
-    pub fn refusal(self) -> Refusal
-        ensures { result ≡ refusal_of self }
-    {
-        match self {
-            PointFault::OutOfRange(i) => Refusal {
-                number: 3,
-                value: Some(i as i128),
-            },
-            PointFault::RowTotal(total) => Refusal {
-                number: 19,
-                value: Some(total as i128),
-            },
+impl From<PointFault> for Refusal {
+    ghost from_gives = { λ f r. r ≡ refusal_of f };
+
+    fn from(fault: PointFault) -> Refusal {
+        match fault {
+            PointFault::OutOfRange(i) => Refusal::with(3, i as i128),
+            PointFault::RowTotal(total) => Refusal::with(19, total as i128),
         }
     }
 }

@@ -1,7 +1,9 @@
 // The interface of point kinds: what generic code over points is proved from.
-ghost use Rattle.std.specs.Prelude.{◌≡◌, ℕ, ◌+◌, ◌≤◌, List, [], ℤ, if◌then◌else◌, Decides, nat_lt};
+ghost use Rattle.std.specs.Prelude.{◌≡◌, ℕ, ◌+◌, ◌≤◌, List, [], ℤ, if◌then◌else◌, Decides, is_ok, nat_lt};
 ghost use Rattle.point.specs.Range.{full_count};
 ghost use Rattle.point.specs.Points.{Point as Coordinates, KindLaws, coordinate as nth, totals as totalled, one_more, below, mean_answer};
+
+use crate::tally::Full;
 
 // A kind of point. A `Record` is the plain value that lies in a table, and means a `Point`; a `Sum` means a count and totals.
 pub trait PointKind {
@@ -51,11 +53,11 @@ pub trait PointKind {
         ensures count { count result ≡ 0 }
         ensures sums { sums result ≡ totalled width [] };
 
-    // One point more: true, or false at a full sum, which stays as it is.
-    fn add(sum: &mut Self::Sum, point: &Self::Point) -> bool
-        ensures answer { result ≡ nat_lt (count sum.old) full_count }
-        ensures count { count sum.new ≡ (if result then count sum.old + 1 else count sum.old) }
-        ensures sums { sums sum.new ≡ (if result then one_more width (sums sum.old) (numbers point.now) else sums sum.old) };
+    // One point more. A full sum stays as it is.
+    fn add(sum: &mut Self::Sum, point: &Self::Point) -> Result<(), Full>
+        ensures answer { is_ok result ≡ nat_lt (count sum.old) full_count }
+        ensures count { count sum.new ≡ (if is_ok result then count sum.old + 1 else count sum.old) }
+        ensures sums { sums sum.new ≡ (if is_ok result then one_more width (sums sum.old) (numbers point.now) else sums sum.old) };
 
     // None for a sum of no points.
     fn mean(sum: &Self::Sum) -> Option<Self::Point>

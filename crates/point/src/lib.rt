@@ -8,6 +8,7 @@ pub mod kind;
 pub mod range;
 pub mod row;
 pub mod solid;
+pub mod tally;
 
 // Worked figures of both kinds, as one list.
 pub fn figures_stand()

@@ -1,5 +1,7 @@
 // The range of a coordinate and the size of a sum, the same for every kind.
-ghost use Rattle.std.specs.Prelude.{◌≡◌};
+ghost use Rattle.std.specs.Prelude.{◌≡◌, not};
+ghost use Rattle.std.specs.Result.{result_err};
+ghost use Rattle.point.specs.Range.{in_range};
 ghost use Rattle.point.specs.Made.{range_fault};
 
 use crate::fault::PointFault;
@@ -10,14 +12,19 @@ pub const LIMIT: u32 = 16_777_216;
 // How many points one sum takes.
 pub const FULL: u32 = 64;
 
-// The fault of the first number that is out of range.
-pub fn range_fault(numbers: &[i32]) -> Option<PointFault>
-    ensures { result ≡ range_fault 0 numbers.now }
+// Whether a number is out of range.
+fn is_outside(number: i32) -> bool
+    ensures { result ≡ not (in_range number) }
 {
-    for i in 0..numbers.len() {
-        if numbers[i].unsigned_abs() > LIMIT {
-            return Some(PointFault::OutOfRange(i));
-        }
+    number.unsigned_abs() > LIMIT
+}
+
+// Declines the first number that is out of range.
+pub fn check_range(numbers: &[i32]) -> Result<(), PointFault>
+    ensures { result_err result ≡ range_fault 0 numbers.now }
+{
+    match numbers.iter().position(|number| is_outside(*number)) {
+        Some(i) => Err(PointFault::OutOfRange(i)),
+        None => Ok(()),
     }
-    None
 }

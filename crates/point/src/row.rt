@@ -1,10 +1,12 @@
 // A pull row: how strongly each handle moves a point. The weights of every row have one total.
-ghost use Rattle.std.specs.Prelude.{◌≡◌, ℕ, ◌≤◌, length, pos, ◌*ℤ◌};
-ghost use Rattle.point.specs.Range.{full_count, InRange, Summed};
+ghost use Rattle.std.specs.Prelude.{◌≡◌, ℕ, length, pos, ◌*ℤ◌};
+ghost use Rattle.point.specs.Range.{InRange};
 ghost use Rattle.point.specs.Points.{coordinate, total};
 ghost use Rattle.point.specs.Dealing.{handle_count, row_whole};
 
 pub mod kind;
+
+use crate::tally::Tally;
 
 // How many handles a row has a weight for.
 pub const HANDLES: usize = 4;
@@ -19,20 +21,16 @@ pub struct PullRecord {
 }
 
 // A weight may be negative, where the others make up for it.
-#[derive(Clone, Copy)]
+#[derive(Clone, Copy, PartialEq, Eq)]
 pub struct PullRow {
     weights: [i32; HANDLES],
     ghost long: { length weights ≡ handle_count },
-    ghost ok: { ((i : ℕ) → InRange (coordinate weights i)) },
+    ghost ok: { (i : ℕ) → InRange (coordinate weights i) },
     ghost whole: { total weights ≡ row_whole },
 }
 
 #[derive(Clone, Copy)]
 pub struct PullSum {
-    count: u32,
-    totals: [i64; HANDLES],
-    ghost few: { count ≤ full_count },
-    ghost long: { length totals ≡ handle_count },
-    ghost ok: { ((i : ℕ) → Summed count (coordinate totals i)) },
-    ghost whole: { total totals ≡ pos count *ℤ row_whole },
+    tally: Tally<HANDLES>,
+    ghost whole: { total tally.totals ≡ pos tally.count *ℤ row_whole },
 }

@@ -1,8 +1,9 @@
 // A point of a solid in units of 1/1024 mm, the plain record of it, and sums of such points.
-ghost use Rattle.std.specs.Prelude.{◌≤◌};
-ghost use Rattle.point.specs.Range.{full_count, InRange, Summed};
+ghost use Rattle.point.specs.Range.{InRange};
 
 pub mod kind;
+
+use crate::tally::Tally;
 
 // What a table of points holds: any three numbers.
 #[derive(Clone, Copy, PartialEq, Eq, Debug)]
@@ -12,7 +13,7 @@ pub struct SolidRecord {
     pub z: i32,
 }
 
-#[derive(Clone, Copy)]
+#[derive(Clone, Copy, PartialEq, Eq)]
 pub struct SolidPoint {
     x: i32,
     y: i32,
@@ -22,10 +23,5 @@ pub struct SolidPoint {
 
 #[derive(Clone, Copy)]
 pub struct SolidSum {
-    count: u32,
-    x: i64,
-    y: i64,
-    z: i64,
-    ghost few: { count ≤ full_count },
-    ghost ok: { Summed count x × Summed count y × Summed count z },
+    tally: Tally<3>,
 }

@@ -1,6 +1,7 @@
 // A job at full size: the torus of 256 by 256 quads, split to 1,048,576 darts and averaged three times, with the microseconds of each call on
 // standard error.
 use crate::show::show;
+use mesh::DARTS;
 use point::solid::SolidRecord;
 use point::solid::kind::Solid;
 use skin::torus::Torus;
@@ -9,8 +10,6 @@ use workpiece::calls::may_open;
 use workpiece::piece::{Answer, Workpiece};
 
 const SIDE: usize = 256;
-
-const DARTS: usize = 1_048_576;
 
 // The record of the vertex that a dart of the torus starts from; past the torus's darts they start over.
 fn corner(h: usize) -> SolidRecord {
@@ -37,36 +36,35 @@ fn digest(table: &[SolidRecord]) -> u64 {
     all
 }
 
-fn timed(rt: &HostRuntime, name: &str, start: &Instant) -> anyhow::Result<()> {
+// Makes a call, and tells the microseconds that it took.
+fn timed<T: Drop, F: FnOnce() -> T>(rt: &HostRuntime, name: &str, call: F) -> anyhow::Result<T>
+    requires { F.IsAlwaysCallable call }
+{
+    let start = Instant::now(rt)?;
+    let answer = call();
     let took = start.elapsed(rt)?;
     eprintln!(rt; "{name} {}", took.as_micros())?;
-    Ok(())
+    Ok(answer)
 }
 
 fn refine(rt: &HostRuntime, torus: Torus, table: &mut [SolidRecord]) -> anyhow::Result<()> {
-    let start = Instant::now(rt)?;
-    let opened = may_open::<Torus, Solid>(&torus, table);
-    timed(rt, "open", &start)?;
+    let opened = timed(rt, "open", || may_open::<Torus, Solid>(&torus, table))?;
     println!(rt; "opens: {}", opened.is_ok())?;
     let mut piece = Workpiece::open(torus);
-    let start = Instant::now(rt)?;
-    let split = piece.split::<Solid>(table);
-    timed(rt, "split", &start)?;
-    show::<Solid>(rt, &Answer::Split(split))?;
+    let split = timed(rt, "split", || piece.split::<Solid>(table))?;
+    show::<Solid>(rt, Answer::Split(split))?;
     for _ in 0..3 {
-        let start = Instant::now(rt)?;
-        let averaged = piece.average::<Solid>(table);
-        timed(rt, "average", &start)?;
-        show::<Solid>(rt, &Answer::Average(averaged))?;
+        let averaged = timed(rt, "average", || piece.average::<Solid>(table))?;
+        show::<Solid>(rt, Answer::Average(averaged))?;
     }
-    show::<Solid>(rt, &Answer::Count(piece.count::<Solid>(table)))?;
+    show::<Solid>(rt, Answer::Count(piece.count::<Solid>(table)))?;
     println!(rt; "digest {}", digest(table))?;
     Ok(())
 }
 
 pub fn full_size(rt: &HostRuntime) -> anyhow::Result<()> {
     println!(rt; "torus 256 by 256, solids")?;
-    let mut table = vec![in rt.alloc(); corner(0); DARTS]?;
+    let mut table = vec![in rt.alloc(); corner(0); DARTS as usize]?;
     for (h, place) in table.as_mut_slice().iter_mut().enumerate() {
         *place = corner(h);
     }

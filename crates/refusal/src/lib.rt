@@ -2,12 +2,13 @@
 #![tactic(auto)]
 
 ghost use Rattle.std.specs.Prelude.{◌≡◌, Some};
-ghost use Rattle.refusal.specs.Lines.{word, line};
+ghost use Rattle.refusal.specs.Lines.{told, word, line};
 ghost use Rattle.refusal.specs.Refusals.{bare, with_whole};
 
 use std::fmt;
 
-// The number of the cause, and the value returned with it, where there is one.
+// The number of the cause, and the value returned with it, where there is one. (Each layer has an enum of its faults; the numbers here are
+// what users know them by, over all layers, so they stay numbers.)
 #[derive(Clone, Copy, PartialEq, Eq, Debug)]
 pub struct Refusal {
     pub number: u32,
@@ -32,6 +33,19 @@ impl Refusal {
         Refusal {
             number,
             value: Some(value),
+        }
+    }
+}
+
+// The number, and the value where there is one.
+impl fmt::Display for Refusal {
+    ghost output = { λ x. Some (told x) };
+
+    fn fmt<W: fmt::Write>(&self, f: &mut fmt::Formatter<W>) -> fmt::Result {
+        let number = self.number;
+        match self.value {
+            Some(value) => write!(f, "{number} {value}"),
+            None => write!(f, "{number}"),
         }
     }
 }

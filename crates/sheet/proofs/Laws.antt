@@ -74,9 +74,6 @@ decimal_well : (bs : List ℕ) (n : ℕ) → n < 2 ^ 64 → Well bs n → bs ≡
 decimal_well bs n h w =
     sym (decimal-digits_value own bs w.all w.some w.lead (omega (arith, w.is))) ∙ ap decimal w.is
 
-integer_minus : (cs : List ℕ) → integer (45 ∷ cs) ≡ negated (natural cs)
-integer_minus cs = refl
-
 limited_inv : (low high place : ℕ) (o : Option ℕ) (n : ℕ) → limited low high place o ≡ Ok n → (o ≡ Some n) × (low ≤ n) × (n ≤ high)
 limited_inv low high place None n e = let z : ◌≡◌ {A = ℕ} 0 1 = cc in absurd (omega arith)
 limited_inv low high place (Some m) n e = go (leb low m) (leb m high) refl refl e

@@ -1,6 +1,8 @@
 -- What reading a sheet means.
-use Rattle.std.proofs.Common.{◌≡◌, ℕ, ◌<◌, ◌≤◌, Bool, true, false, cond, ltb, List, length, drop, Ok, Err, codes, Result, sym, refl, ap, ◌∙◌, subst, arith}
+use Rattle.std.proofs.Common.{◌≡◌, ℕ, ◌<◌, ◌≤◌, Bool, true, false, cond, ltb, List, ◌++◌, length, take, drop, Ok, Err, codes, Result, sym, refl, ap, ◌∙◌, subst, arith}
+use lib.ListN.{length-map}
 use Rattle.std.proofs.lemmas.Bool.{lt-ltb, le-ltb}
+use Rattle.std.proofs.lemmas.List.{length-take}
 use Rattle.sheet.specs.declared.fault.TextFault.{TextFault}
 use Rattle.sheet.specs.declared.fault.TextFault.TheVariants as fault
 use Rattle.point.specs.declared.solid.SolidRecord.{SolidRecord}
@@ -8,7 +10,7 @@ use Rattle.sheet.specs.declared.record.Sizes.{Sizes}
 use Rattle.sheet.specs.declared.record.Layout.{Layout}
 use Rattle.sheet.specs.Form.{Form, gives, token, judge, after, times, then, token_at, end_at, line_end}
 use Rattle.sheet.specs.Sheet.{Sheet, sheet, sheet_text, Ranged, corner_count, point_line, corner, face_line, header, closing_line, closed, faced}
-use Rattle.sheet.specs.Fill.{Fills, FillsFaces}
+use Rattle.sheet.specs.Fill.{Says, FillsFaces}
 use Rattle.sheet.specs.Read.{Tables, tables, sizes, sized, holding, stored, settled, declined, read, Laid, SheetLaw, ReadsSheet}
 use Rattle.sheet.proofs.Forms.{judge_after, never, ok_is}
 use Rattle.sheet.proofs.Sound.{end_sound}
@@ -129,6 +131,9 @@ told text at t r u e = record { outcome = e; law = subst (λ x. SheetLaw text at
 pub read_err : (text : List ℕ) (at : ℕ) (t : Tables) (r : Result Sizes TextFault) (e : TextFault) → r ≡ Err e → judge sheet text at ≡ Err e → ReadsSheet text at t r t
 read_err text at t r e h j = told text at t r t (ap (λ x. (x, t)) h ∙ sym (ap (λ x. settled x t) j))
 
+pub read_as : (text : List ℕ) (at : ℕ) (t : Tables) (r s : Result Sizes TextFault) (u : Tables) → r ≡ s → ReadsSheet text at t s u → ReadsSheet text at t r u
+read_as text at t r s u e o = subst (λ x. ReadsSheet text at t x u) (sym e) o
+
 module _ (text : List ℕ) (at : ℕ) (t : Tables) (l : Layout) (d : Laid text at l) where
   abbrev of : Sheet
   of = record { points = d.ps; faces = d.fs }
@@ -164,15 +169,25 @@ module _ (text : List ℕ) (at : ℕ) (t : Tables) (l : Layout) (d : Laid text a
       ∙ sym (by_tests false false true (le-ltb (length t.points) (length d.ps) (omega (arith, points_is))) (le-ltb (length t.lengths) (length d.fs) (omega (arith, faces_is)))
       (lt-ltb (length t.corners) (corner_count d.fs) (omega (arith, corners_is)))))
 
-  pub read_ok : l.sizes.points ≤ length t.points → l.sizes.faces ≤ length t.lengths → l.sizes.corners ≤ length t.corners
-      → (q : ℕ) (ps : List SolidRecord) (ls cs : List ℕ) → Fills point_line text l.points l.sizes.points t.points q ps → FillsFaces text l.faces l.sizes.faces t.lengths t.corners ls cs
-      → ReadsSheet text at t (Ok l.sizes) (tables ps ls cs)
-  read_ok g h k q ps ls cs f fs =
-      let a = f d.ps d.after_points d.points in
-      let b = fs d.fs d.after_faces d.faces in
-      told text at t _ _ ((λ i. (Ok (d.counts i), tables (a.1 i) (b.0 i) (b.1 i)))
-      ∙ sym (by_tests false false false (le-ltb (length t.points) (length d.ps) (omega (arith, points_is))) (le-ltb (length t.lengths) (length d.fs) (omega (arith, faces_is)))
-      (le-ltb (length t.corners) (corner_count d.fs) (omega (arith, corners_is)))))
+  -- in tables with room for it, the sheet is what the places for its points and lengths take
+  module _ (g : l.sizes.points ≤ length t.points) (h : l.sizes.faces ≤ length t.lengths) (k : l.sizes.corners ≤ length t.corners) where
+    pub points_there : judge (times (length (take l.sizes.points t.points)) point_line) text l.points ≡ Ok (d.ps, d.after_points)
+    points_there = let e : length (take l.sizes.points t.points) ≡ l.sizes.points = simp length-take (omega arith) in ap (λ n. judge (times n point_line) text l.points) e ∙ d.points
+
+    pub faces_there : judge (times (length (take l.sizes.faces t.lengths)) face_line) text l.faces ≡ Ok (d.fs, d.after_faces)
+    faces_there = let e : length (take l.sizes.faces t.lengths) ≡ l.sizes.faces = simp length-take (omega arith) in ap (λ n. judge (times n face_line) text l.faces) e ∙ d.faces
+
+    pub faces_say : Says (times (length (take l.sizes.faces t.lengths)) face_line) text l.faces (λ fs. corner_count fs ≤ length t.corners)
+    faces_say = (d.fs, d.after_faces, faces_there, omega (arith, corners_is))
+
+    pub read_ok : (ps : List SolidRecord) (r : Result (Unit {0}) TextFault) (ls cs : List ℕ) → ps ≡ d.ps → FillsFaces text l.faces (take l.sizes.faces t.lengths) t.corners r ls cs
+        → ReadsSheet text at t (Ok l.sizes) (tables (ps ++ drop l.sizes.points t.points) (ls ++ drop l.sizes.faces t.lengths) cs)
+    read_ok ps r ls cs a fs =
+        let b = fs d.fs d.after_faces faces_there in
+        let f = faces_is ∙ sym (length-map d.fs length) in
+        told text at t _ _ ((λ i. (Ok (d.counts i), tables (a i ++ drop (points_is i) t.points) (b.1 i ++ drop (f i) t.lengths) (b.2 i)))
+        ∙ sym (by_tests false false false (le-ltb (length t.points) (length d.ps) (omega (arith, points_is))) (le-ltb (length t.lengths) (length d.fs) (omega (arith, faces_is)))
+        (le-ltb (length t.corners) (corner_count d.fs) (omega (arith, corners_is)))))
 
 -- in tables of the sheet's sizes, the answer is that of judging
 pub roomy : (text : List ℕ) (at : ℕ) (t : Tables) (r : Result Sizes TextFault) (u : Tables) → ReadsSheet text at t r u → (n : Sizes) → Ok n ≡ sized (judge sheet text at) → n.points ≤ length t.points → n.faces ≤ length t.lengths → n.corners ≤ length t.corners → r ≡ sized (judge sheet text at)

@@ -1,6 +1,7 @@
 pub mod Number
 pub mod Token
 pub mod Form
+pub mod Reader
 pub mod Sheet
 pub mod Fill
 pub mod First

@@ -44,10 +44,10 @@ SameSign (Some (negsuc m)) (Some (negsuc n)) = Unit {0}
 abbrev pub Alike : List ℕ → List ℕ → Type 0
 Alike v w = SameSign (integer v) (integer w)
 
--- what u32 can hold of it
+-- what u64 can hold of it
 abbrev pub capped : Option ℕ → Option ℕ
 capped None = None
-capped (Some n) = Some (min n (2 ^ 32 - 1))
+capped (Some n) = Some (min n (2 ^ 64 - 1))
 
 -- a number from low to high, of the token at a place
 abbrev pub limited : ℕ → ℕ → ℕ → Option ℕ → Result ℕ TextFault

@@ -3,6 +3,7 @@ use Rattle.std.specs.Prelude.{◌≡◌, ℕ, cond, List, map, length, drop, Ok,
 use Rattle.sheet.specs.declared.fault.TextFault.{TextFault}
 use Rattle.sheet.specs.declared.fault.TextFault.TheVariants as fault
 use Rattle.point.specs.declared.solid.SolidRecord.{SolidRecord}
+use Rattle.sheet.specs.declared.tables.SheetTables.{SheetTables}
 use Rattle.sheet.specs.declared.record.Sizes.{Sizes}
 use Rattle.sheet.specs.declared.record.Layout.{Layout}
 use Rattle.sheet.specs.First.{PastLimit, OffForm}
@@ -18,6 +19,14 @@ pub record Tables : Type 0 where
 
 abbrev pub tables : List SolidRecord → List ℕ → List ℕ → Tables
 tables ps ls cs = record { points = ps; lengths = ls; corners = cs }
+
+-- what the tables that are lent hold
+abbrev pub tables_of : SheetTables → Tables
+tables_of t = tables t.points.now t.lengths.now t.corners.now
+
+-- each of them is still the table that was lent
+abbrev pub SameTables : SheetTables → SheetTables → Type 0
+SameTables t u = (u.points.ghost_name ≡ t.points.ghost_name) × (u.lengths.ghost_name ≡ t.lengths.ghost_name) × (u.corners.ghost_name ≡ t.corners.ghost_name)
 
 abbrev pub sizes : Sheet → Sizes
 sizes s = record { points = length s.points; faces = length s.faces; corners = corner_count s.faces }

@@ -14,19 +14,15 @@ pub enum TextFault {
     Limit(usize),
 }
 
-impl TextFault {
-    // The number of the cause and the value returned.
-    pub fn refusal(self) -> Refusal
-        ensures { result ≡ refusal_of self }
-    {
-        let (number, value) = match self {
-            TextFault::Short(places) => (1, places),
-            TextFault::Form(place) => (8, place),
-            TextFault::Limit(place) => (9, place),
-        };
-        Refusal {
-            number,
-            value: Some(value as i128),
+// The number of the cause and the value returned.
+impl From<TextFault> for Refusal {
+    ghost from_gives = { λ fault refusal. refusal ≡ refusal_of fault };
+
+    fn from(fault: TextFault) -> Refusal {
+        match fault {
+            TextFault::Short(places) => Refusal::with(1, places as i128),
+            TextFault::Form(place) => Refusal::with(8, place as i128),
+            TextFault::Limit(place) => Refusal::with(9, place as i128),
         }
     }
 }

@@ -3,10 +3,12 @@
 
 pub mod fault;
 mod fill;
+mod item;
 pub mod job;
 mod judge;
 mod number;
 pub mod read;
+mod reader;
 pub mod record;
-mod step;
+pub mod tables;
 mod token;

@@ -8,6 +8,7 @@ mod tests {
     use sheet::fault::TextFault;
     use sheet::read::read_sheet;
     use sheet::record::Sizes;
+    use sheet::tables::SheetTables;
     use std::process::Abort;
     use std::test::Fail;
 
@@ -18,18 +19,20 @@ mod tests {
         let mut points = [OLD; 4];
         let mut lengths = [7u32; 2];
         let mut corners = [7u32; 8];
-        read_sheet(text, 0, &mut points, &mut lengths, &mut corners)
+        let mut tables = SheetTables {
+            points: &mut points,
+            lengths: &mut lengths,
+            corners: &mut corners,
+        };
+        read_sheet(text, 0, &mut tables)
     }
 
     fn declines(rt: &impl Abort, text: &[u8], number: u32, value: i128, case: &str) {
         match answer(text) {
             Ok(_) => panic!(rt; "{case}: it was accepted"),
             Err(fault) => assert_eq!(rt;
-                fault.refusal(),
-                Refusal {
-                    number,
-                    value: Some(value),
-                },
+                Refusal::from(fault),
+                Refusal::with(number, value),
                 "{case}"
             ),
         }
@@ -131,10 +134,12 @@ mod tests {
             faces: 1,
             corners: 3,
         };
-        assert_eq!(rt;
-            read_sheet(text, 0, &mut points, &mut lengths, &mut corners),
-            Ok(sizes)
-        );
+        let mut tables = SheetTables {
+            points: &mut points,
+            lengths: &mut lengths,
+            corners: &mut corners,
+        };
+        assert_eq!(rt; read_sheet(text, 0, &mut tables), Ok(sizes));
         let first = SolidRecord {
             x: -16777216,
             y: 0,

@@ -11,17 +11,10 @@ answered n h x y =
     (λ _ e. absurd (let z : ◌≡◌ {A = ℕ} 0 1 = cc in omega arith))
 
 module _ (m : Mesh) (l : Lawful m) where
-  pub next_answer : (h y : ℕ) → Some y ≡ within m.n h (m.next h) → y < 1048576
-  next_answer h y e =
-      let a = answered m.n h (m.next h) y e in omega (arith, a.1, l.few, l.next_below h a.0)
-
-  pub prev_answer : (h y : ℕ) → Some y ≡ within m.n h (m.prev h) → y < 1048576
-  prev_answer h y e =
-      let a = answered m.n h (m.prev h) y e in omega (arith, a.1, l.few, l.prev_below h a.0)
-
-  pub twin_answer : (h y : ℕ) → Some y ≡ within m.n h (m.twin h) → y < 1048576
-  twin_answer h y e =
-      let a = answered m.n h (m.twin h) y e in omega (arith, a.1, l.few, l.twin_below h a.0)
+  -- what a call answers that leads from darts to darts
+  pub dart_answer : (f : ℕ → ℕ) → ((h : ℕ) → h < m.n → f h < m.n) → (h y : ℕ) → Some y ≡ within m.n h (f h) → y < 1048576
+  dart_answer f below h y e =
+      let a = answered m.n h (f h) y e in omega (arith, a.1, l.few, below h a.0)
 
 -- a dart below n is answered
 pub answers : (n h x y : ℕ) → h < n → y ≡ x → Some y ≡ within n h x

@@ -3,12 +3,13 @@ use Rattle.std.specs.Prelude.{◌≡◌, ℕ, ◌*◌, ◌<◌}
 use Rattle.mesh.specs.Mesh.{Mesh, turn}
 use Rattle.mesh.specs.Count.{vertices, edges, faces, Classes, Once}
 use Rattle.skin.specs.declared.count.Ring.{Ring}
-use Rattle.skin.specs.declared.count.Ring.TheVariants.{Face, Vertex}
+use Rattle.skin.specs.declared.count.Ring.TheVariants.{Face, Back, Vertex}
 use Rattle.skin.specs.declared.count.Counts.{Counts}
 
 -- the step from dart to dart along a ring
 abbrev pub along : Ring → Mesh → ℕ → ℕ
 along Face m h = m.next h
+along Back m h = m.prev h
 along Vertex m h = turn m h
 
 abbrev pub counting : Mesh → Counts

@@ -3,6 +3,8 @@ pub mod Ways
 pub mod Refusals
 pub mod Sides
 pub mod Counts
+pub mod Orbits
 pub mod Verdict
 pub mod Fit
+pub mod Drawn
 pub mod Meaning

@@ -10,20 +10,13 @@ pub fn alike<S: Skin, O: Skin>(skin: &S, other: &O) -> bool
     ensures { Decides result (Same (mesh S.Skin skin.now) (mesh O.Skin other.now)) }
 {
     let n = skin.n();
-    if n != other.n() {
-        return false;
-    }
-    for h in 0..n {
-        if !alike_at(skin, other, h) {
-            return false;
-        }
-    }
-    true
+    n == other.n() && (0..n).all(|h| alike_at(skin, other, h))
 }
 
 // Whether both answer alike at h.
 fn alike_at<S: Skin, O: Skin>(skin: &S, other: &O, h: u32) -> bool
-    requires { (h < S.Skin.n skin.now) × (h < O.Skin.n other.now) }
+    requires dart { h < S.Skin.n skin.now }
+    requires other { h < O.Skin.n other.now }
     ensures { Decides result (Told (mesh S.Skin skin.now) (mesh O.Skin other.now) h) }
 {
     skin.next(h) == other.next(h) && skin.prev(h) == other.prev(h) && skin.twin(h) == other.twin(h)

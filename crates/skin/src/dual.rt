@@ -39,13 +39,11 @@ impl<S: Skin> Skin for Dual<S> {
     }
 
     fn next(&self, h: u32) -> Option<u32> {
-        let t = self.base.twin(h)?;
-        self.base.next(t)
+        self.base.turn(h)
     }
 
     fn prev(&self, h: u32) -> Option<u32> {
-        let p = self.base.prev(h)?;
-        self.base.twin(p)
+        self.base.unturn(h)
     }
 
     fn twin(&self, h: u32) -> Option<u32> {

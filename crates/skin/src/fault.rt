@@ -4,6 +4,13 @@ ghost use Rattle.skin.specs.Refusals.{refusal_of};
 
 use refusal::Refusal;
 
+// A side of a torus.
+#[derive(Clone, Copy, PartialEq, Eq, Debug)]
+pub enum Side {
+    Width,
+    Height,
+}
+
 // Each case carries the value that it returns.
 #[derive(Clone, Copy, PartialEq, Eq, Debug)]
 pub enum Fault {
@@ -15,22 +22,22 @@ pub enum Fault {
     Rungs,
     // the tables break a law: the smallest dart at fault
     Broken(u32),
-    // a side of a torus is out of range: 0 for the width, 1 for the height
-    Side(u32),
+    // a side of a torus is out of range: 0 is returned for the width, 1 for the height
+    Side(Side),
 }
 
-impl Fault {
-    // The number of the cause and the value returned.
-    pub fn refusal(self) -> Refusal
-        ensures { result ≡ refusal_of self }
-    {
-        let (number, value) = match self {
-            Fault::Short(places) => (1, Some(places as i128)),
-            Fault::TooMany => (5, None),
-            Fault::Rungs => (6, None),
-            Fault::Broken(dart) => (20, Some(dart as i128)),
-            Fault::Side(side) => (21, Some(side as i128)),
-        };
-        Refusal { number, value }
+// The number of the cause and the value returned.
+impl From<Fault> for Refusal {
+    ghost from_gives = { λ f r. r ≡ refusal_of f };
+
+    fn from(fault: Fault) -> Refusal {
+        match fault {
+            Fault::Short(places) => Refusal::with(1, places as i128),
+            Fault::TooMany => Refusal::bare(5),
+            Fault::Rungs => Refusal::bare(6),
+            Fault::Broken(dart) => Refusal::with(20, dart as i128),
+            Fault::Side(Side::Width) => Refusal::with(21, 0),
+            Fault::Side(Side::Height) => Refusal::with(21, 1),
+        }
     }
 }

@@ -30,10 +30,7 @@ impl Way {
     fn stays(self) -> bool
         ensures { result ≡ way_stays self }
     {
-        match self {
-            Way::Stay => true,
-            Way::Next | Way::Prev | Way::Twin | Way::Turn | Way::Unturn => false,
-        }
+        matches!(self, Way::Stay)
     }
 
     // The way below a Dual.
@@ -50,9 +47,9 @@ impl Way {
         }
     }
 
-    // The way from dart h below a Quad, for one from dart 4h + j.
+    // The way from dart h below a Quad, for one from dart 4h + j. (Unturn has the cases of turn, each one later; two tables show that better
+    // than a sum modulo 4.)
     fn below(self, j: u32) -> Way
-        requires { j < 4 }
         ensures { result ≡ way_below self j }
     {
         match self {
@@ -74,7 +71,6 @@ impl Way {
 
     // The way below a Quad, and below the Dual too where the bit is 1.
     fn under(self, bit: bool, j: u32) -> Way
-        requires { j < 4 }
         ensures { result ≡ way_under bit (way_below self j) }
     {
         let w = self.below(j);
@@ -100,6 +96,7 @@ impl Way {
 pub const RUNGS: usize = 8;
 
 // The base, and the first `count` of the bits. It stores no darts.
+// (The meaning of a workpiece reads the bits by place, up to their count: `level count bits`. A list of bits would be no plainer there.)
 #[derive(Drop)]
 pub struct Ladder<S> {
     base: S,
@@ -159,15 +156,13 @@ impl<S: Skin> Ladder<S> {
         ensures { result ≡ (level self.now.count self.now.bits (mesh S.Skin self.now.base)).n }
     {
         let mut n = self.base.n();
-        let mut i = 0;
-        while i < self.count {
+        for _i in 0..self.count {
             n = if n <= QUARTER { 4 * n } else { 0 };
-            i += 1;
         }
         n
     }
 
-    // What the base answers of a way.
+    // What the base answers of a way. (A way is computed with on the way down, so it is a value and no closure.)
     fn foot(&self, way: Way, h: u32) -> Option<u32>
         ensures { result ≡ within (S.Skin.n self.now.base) h (act (mesh S.Skin self.now.base) way h) }
     {
@@ -176,18 +171,13 @@ impl<S: Skin> Ladder<S> {
             Way::Next => self.base.next(h),
             Way::Prev => self.base.prev(h),
             Way::Twin => self.base.twin(h),
-            Way::Turn => {
-                let t = self.base.twin(h)?;
-                self.base.next(t)
-            }
-            Way::Unturn => {
-                let p = self.base.prev(h)?;
-                self.base.twin(p)
-            }
+            Way::Turn => self.base.turn(h),
+            Way::Unturn => self.base.unturn(h),
         }
     }
 
     // What the top answers of a way: down the bits as far as the way leads, and up again.
+    // (Two loops: by recursion over the bits, counting the rings of a ladder took a quarter longer.)
     fn go(&self, way: Way, h: u32) -> Option<u32>
         ensures { result ≡ within (level self.now.count self.now.bits (mesh S.Skin self.now.base)).n h (act (level self.now.count self.now.bits (mesh S.Skin self.now.base)) way h) }
     {
@@ -206,9 +196,8 @@ impl<S: Skin> Ladder<S> {
             d = d / 4;
         }
         let mut x = if i == 0 { self.foot(w, d)? } else { d };
-        'up: while i < self.count {
-            x = 4 * x + digits[i];
-            i += 1;
+        for k in i..self.count {
+            x = 4 * x + digits[k];
         }
         Some(x)
     }
@@ -239,5 +228,13 @@ impl<S: Skin> Skin for Ladder<S> {
 
     fn twin(&self, h: u32) -> Option<u32> {
         self.go(Way::Twin, h)
+    }
+
+    fn turn(&self, h: u32) -> Option<u32> {
+        self.go(Way::Turn, h)
+    }
+
+    fn unturn(&self, h: u32) -> Option<u32> {
+        self.go(Way::Unturn, h)
     }
 }

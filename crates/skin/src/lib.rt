@@ -6,6 +6,8 @@ pub mod count;
 pub mod dual;
 pub mod fault;
 pub mod ladder;
+pub mod leaders;
+pub mod orbit;
 pub mod quad;
 pub mod skin;
 pub mod table;

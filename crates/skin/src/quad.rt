@@ -43,6 +43,7 @@ impl<S: Skin> Skin for Quad<S> {
         if n <= QUARTER { 4 * n } else { 0 }
     }
 
+    // (The three calls share the test of h and no case, so one function for all would only match twice.)
     fn next(&self, h: u32) -> Option<u32> {
         if h >= self.n() {
             return None;
@@ -75,16 +76,10 @@ impl<S: Skin> Skin for Quad<S> {
         }
         let b = h / 4;
         match h % 4 {
-            0 => {
-                let t = self.base.twin(b)?;
-                Some(4 * self.base.next(t)? + 3)
-            }
+            0 => Some(4 * self.base.turn(b)? + 3),
             1 => Some(4 * self.base.next(b)? + 2),
             2 => Some(4 * self.base.prev(b)? + 1),
-            _ => {
-                let p = self.base.prev(b)?;
-                Some(4 * self.base.twin(p)?)
-            }
+            _ => Some(4 * self.base.unturn(b)?),
         }
     }
 }

@@ -31,4 +31,20 @@ pub trait Skin {
 
     fn twin(&self, h: u32) -> Option<u32>
         ensures { result ≡ within (n self.now) h (twin self.now h) };
+
+    // The dart after h round its start vertex: next of twin.
+    fn turn(&self, h: u32) -> Option<u32>
+        ensures { result ≡ within (n self.now) h (next self.now (twin self.now h)) }
+    {
+        let t = self.twin(h)?;
+        self.next(t)
+    }
+
+    // The dart before h round its start vertex: twin of prev.
+    fn unturn(&self, h: u32) -> Option<u32>
+        ensures { result ≡ within (n self.now) h (twin self.now (prev self.now h)) }
+    {
+        let p = self.prev(h)?;
+        self.twin(p)
+    }
 }

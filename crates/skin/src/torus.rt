@@ -4,7 +4,7 @@ ghost use Rattle.mesh.specs.Cells.{torus as grid, after as following, before as 
 ghost use Rattle.mesh.proofs.Grid.{torus_lawful};
 ghost use Rattle.skin.specs.Sides.{side_fault};
 
-use crate::fault::Fault;
+use crate::fault::{Fault, Side};
 use crate::skin::Skin;
 
 // The longest side of a torus.
@@ -25,10 +25,10 @@ impl Torus {
         ensures { MatchResult result (λ t. (side_fault w h ≡ None) × (t.w ≡ w) × (t.h ≡ h)) (λ f. side_fault w h ≡ Some f) }
     {
         if w < 1 || w > SIDE {
-            return Err(Fault::Side(0));
+            return Err(Fault::Side(Side::Width));
         }
         if h < 1 || h > SIDE {
-            return Err(Fault::Side(1));
+            return Err(Fault::Side(Side::Height));
         }
         Ok(Torus { w, h })
     }
@@ -57,27 +57,15 @@ impl Skin for Torus {
     }
 
     fn next(&self, d: u32) -> Option<u32> {
-        if d < self.darts() {
-            Some(4 * (d / 4) + after(4, d % 4))
-        } else {
-            None
-        }
+        (d < self.darts()).then(|| 4 * (d / 4) + after(4, d % 4))
     }
 
     fn prev(&self, d: u32) -> Option<u32> {
-        if d < self.darts() {
-            Some(4 * (d / 4) + before(4, d % 4))
-        } else {
-            None
-        }
+        (d < self.darts()).then(|| 4 * (d / 4) + before(4, d % 4))
     }
 
     fn twin(&self, d: u32) -> Option<u32> {
-        if d < self.darts() {
-            Some(opposite(self.w, self.h, (d / 4) % self.w, (d / 4) / self.w, d % 4))
-        } else {
-            None
-        }
+        (d < self.darts()).then(|| self.at((d / 4) % self.w, (d / 4) / self.w).opposite(d % 4))
     }
 }
 
@@ -97,25 +85,45 @@ fn before(k: u32, i: u32) -> u32
     if i == 0 { k - 1 } else { i - 1 }
 }
 
-// Dart j of the cell (x, y).
-fn dart(w: u32, h: u32, x: u32, y: u32, j: u32) -> u32
-    requires sides { (w ≤ 512) × (h ≤ 512) }
-    requires cell { (x < w) × (y < h) × (j < 4) }
-    ensures { result ≡ place w x y j }
-{
-    4 * (y * w + x) + j
+// One quad of a torus.
+#[derive(Clone, Copy)]
+struct Cell {
+    torus: Torus,
+    x: u32,
+    y: u32,
+    ghost inside: { (x < torus.w) × (y < torus.h) },
 }
 
-// The twin of dart j of the cell (x, y).
-fn opposite(w: u32, h: u32, x: u32, y: u32, j: u32) -> u32
-    requires sides { (w ≤ 512) × (h ≤ 512) }
-    requires cell { (x < w) × (y < h) × (j < 4) }
-    ensures { result ≡ across w h x y j }
-{
-    match j {
-        0 => dart(w, h, x, before(h, y), 2),
-        1 => dart(w, h, after(w, x), y, 3),
-        2 => dart(w, h, x, after(h, y), 0),
-        _ => dart(w, h, before(w, x), y, 1),
+impl Torus {
+    // The cell in the column x and the row y.
+    fn at(self, x: u32, y: u32) -> Cell
+        requires column { x < self.w }
+        requires row { y < self.h }
+        ensures { (result.torus ≡ self) × (result.x ≡ x) × (result.y ≡ y) }
+    {
+        Cell { torus: self, x, y }
+    }
+}
+
+impl Cell {
+    // Dart j.
+    fn dart(self, j: u32) -> u32
+        requires { j < 4 }
+        ensures { result ≡ place self.torus.w self.x self.y j }
+    {
+        4 * (self.y * self.torus.w + self.x) + j
+    }
+
+    // The twin of dart j.
+    fn opposite(self, j: u32) -> u32
+        ensures { result ≡ across self.torus.w self.torus.h self.x self.y j }
+    {
+        let Cell { torus, x, y } = self;
+        match j {
+            0 => torus.at(x, before(torus.h, y)).dart(2),
+            1 => torus.at(after(torus.w, x), y).dart(3),
+            2 => torus.at(x, after(torus.h, y)).dart(0),
+            _ => torus.at(before(torus.w, x), y).dart(1),
+        }
     }
 }

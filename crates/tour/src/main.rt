@@ -87,7 +87,7 @@ fn climb(rt: &HostRuntime, torus: Torus) -> anyhow::Result<()> {
         "  Quads and Duals nested: {}",
         verdict(eight_rungs(&ladder, torus))
     )?;
-    tell(rt, "  a ninth rung", refused(ladder.add(false)))
+    tell(rt, "  a ninth rung", ladder.add(false))
 }
 
 // The rings of a ladder and of tables that mean the same, with the microseconds that counting takes on standard error.
@@ -95,15 +95,16 @@ fn race(rt: &HostRuntime, torus: Torus) -> anyhow::Result<()> {
     let mut ladder = Ladder::new(torus);
     let _ = ladder.add(false);
     let tables = copied(rt.alloc(), &ladder)?;
-    let mut adopted = TableSkin::empty();
-    let _ = adopted.adopt(
+    timed(rt, "ladder", &ladder)?;
+    if let Ok(held) = TableSkin::new(
         ladder.n(),
         tables.next.as_slice(),
         tables.prev.as_slice(),
         tables.twin.as_slice(),
-    );
-    timed(rt, "ladder", &ladder)?;
-    timed(rt, "tables", &adopted)
+    ) {
+        timed(rt, "tables", &held)?;
+    }
+    Ok(())
 }
 
 fn timed<S: Skin>(rt: &HostRuntime, name: &str, skin: &S) -> anyhow::Result<()> {
@@ -120,8 +121,9 @@ fn timed<S: Skin>(rt: &HostRuntime, name: &str, skin: &S) -> anyhow::Result<()> 
 
 // Two triangles, split, and the Dual of that.
 fn triangles(rt: &HostRuntime) -> anyhow::Result<()> {
-    let mut skin = TableSkin::empty();
-    let _ = skin.adopt(6, &NEXT, &PREV, &TWIN);
+    let Ok(skin) = TableSkin::new(6, &NEXT, &PREV, &TWIN) else {
+        return Ok(());
+    };
     show(rt, "two triangles", &skin)?;
     let split = Dual::new(Quad::new(skin));
     show(rt, "two triangles split", &split)?;
@@ -131,46 +133,36 @@ fn triangles(rt: &HostRuntime) -> anyhow::Result<()> {
 // What is declined.
 fn decline(rt: &HostRuntime) -> anyhow::Result<()> {
     let mut skin = TableSkin::empty();
-    tell(rt, "a torus 0 by 513", refused(Torus::new(0, 513)))?;
-    tell(rt, "a torus 512 by 513", refused(Torus::new(512, 513)))?;
+    tell(rt, "a torus 0 by 513", Torus::new(0, 513))?;
+    tell(rt, "a torus 512 by 513", Torus::new(512, 513))?;
     tell(
         rt,
         "1,048,577 darts in tables of 6",
-        refused(skin.adopt(1_048_577, &NEXT, &PREV, &TWIN)),
+        skin.adopt(1_048_577, &NEXT, &PREV, &TWIN),
     )?;
     tell(
         rt,
         "7 darts in tables of 6",
-        refused(skin.adopt(7, &NEXT, &PREV, &TWIN)),
+        skin.adopt(7, &NEXT, &PREV, &TWIN),
     )?;
     tell(
         rt,
         "5 darts, with entries of 5",
-        refused(skin.adopt(5, &NEXT, &PREV, &TWIN)),
+        skin.adopt(5, &NEXT, &PREV, &TWIN),
     )?;
     tell(
         rt,
         "prev given for next",
-        refused(skin.adopt(6, &PREV, &PREV, &TWIN)),
+        skin.adopt(6, &PREV, &PREV, &TWIN),
     )?;
-    tell(
-        rt,
-        "lawful tables",
-        refused(skin.adopt(6, &NEXT, &PREV, &TWIN)),
-    )
+    tell(rt, "lawful tables", skin.adopt(6, &NEXT, &PREV, &TWIN))
 }
 
-fn refused<T: Drop>(answer: Result<T, Fault>) -> Option<Refusal> {
-    match answer {
-        Ok(_) => None,
-        Err(fault) => Some(fault.refusal()),
-    }
-}
-
-fn tell(rt: &HostRuntime, what: &str, refusal: Option<Refusal>) -> anyhow::Result<()> {
-    match refusal {
-        Some(r) => println!(rt; "{what}: refused {} {}", r.number, r.value.unwrap_or(0))?,
-        None => println!(rt; "{what}: taken")?,
+// What was answered; a refusal that returns nothing is told with 0.
+fn tell<T: Drop>(rt: &HostRuntime, what: &str, answer: Result<T, Fault>) -> anyhow::Result<()> {
+    match answer.map_err(Refusal::from) {
+        Ok(_) => println!(rt; "{what}: taken")?,
+        Err(r) => println!(rt; "{what}: refused {} {}", r.number, r.value.unwrap_or(0))?,
     }
     Ok(())
 }

@@ -1,5 +1,6 @@
 -- An accepted average keeps a workpiece faithful.
 use Rattle.std.proofs.Common.{◌≡◌, ℕ, ◌+◌, ◌*◌, ◌/◌, ◌^◌, ◌<◌, ◌≤◌, List, [], map, length, get_or, ℤ, pos, ◌*ℤ◌, sym, ap, ◌∙◌, subst, add-zero, pow-suc, add-one}
+use Rattle.std.proofs.lemmas.Simd.{map-map}
 use Rattle.std.proofs.lemmas.List.{length-map}
 use Rattle.mesh.specs.Mesh.{turn, ring, dual, Lawful}
 use Rattle.mesh.proofs.Rings.{ring_agree, ring_pos}
@@ -14,7 +15,7 @@ use Rattle.workpiece.specs.Law.{Work, Faithful}
 use Rattle.workpiece.specs.Outcomes.{Next, Averaged, ring_mean}
 use Rattle.workpiece.proofs.Whole.{totals_near, average_near}
 use Rattle.workpiece.proofs.Faces.{mean_next}
-use Rattle.workpiece.proofs.Lists.{PlaceLaws, quotient, map_map, each_map, each_so, ring_below}
+use Rattle.workpiece.proofs.Lists.{PlaceLaws, quotient, each_map, each_so, ring_below}
 
 module _ {X : Type 0} {point : X → Point} {d slack : ℕ} {mean : ℕ → List ℤ → Point} (kind : PlaceLaws point d slack mean)
     {R : Reckoning} {w : Work} {before : List Point} (law : Lawful w.carrier) (faith : Faithful d slack R w before)
@@ -43,7 +44,7 @@ module _ {X : Type 0} {point : X → Point} {d slack : ℕ} {mean : ℕ → List
 
     total_is : (h i : ℕ) → i < d → coordinate (totals d (round h)) i ≡ total (map (λ x. coordinate (get_or before x []) i) (ring w.carrier.next h))
     unfolding round
-    total_is h i l = totals_at d (round h) i l ∙ ap total (map_map (λ p. coordinate p i) (λ x. get_or before x []) (ring w.carrier.next h))
+    total_is h i l = totals_at d (round h) i l ∙ ap total (map-map (λ p. coordinate p i) (λ x. get_or before x []) (ring w.carrier.next h))
 
     here_near : (h i : ℕ) → h < w.carrier.n → i < d
         → 2 * distance (coordinate (ring_mean d mean w.carrier before h) i *ℤ pos (common ^ (R.averages + 1))) ((after_average R).exact h i)

@@ -1,13 +1,14 @@
 -- An average under way: the rings with a dart below a are done.
 use Rattle.std.proofs.Common.{◌≡◌, ℕ, ◌+◌, ◌<◌, ◌≤◌, Bool, true, false, cond, List, [], map, length, get_or, ℤ, sym, refl, ap, ◌∙◌, arith}
 use mathlib.Core.Path.{fun_ext}
+use Rattle.std.proofs.lemmas.Simd.{map-map}
 use Rattle.std.proofs.lemmas.Bool.{cond-true, cond-false}
 use Rattle.std.specs.List.{range_with_len}
 use Rattle.mesh.specs.Mesh.{Mesh, Lawful, ring, among, floor}
 use Rattle.mesh.proofs.Rounds.{period, period_next, face_rounds, ring_inside, ring_keeps, floor_among, floor_here, floor_elsewhere, floor_not_first, floor_end, floor_zero}
 use Rattle.point.specs.Points.{Point, totals, total, coordinate}
 use Rattle.workpiece.specs.Outcomes.{ring_mean, Stored, Averaged}
-use Rattle.workpiece.proofs.Lists.{map_map, total_next, same_map}
+use Rattle.workpiece.proofs.Lists.{total_next, same_map}
 
 pub record Part (d : ℕ) (mean : ℕ → List ℤ → Point) (m : Mesh) (before : List Point) (a : ℕ) (cur : List Point) : Type 0 where
   pub long : length cur ≡ length before
@@ -19,9 +20,9 @@ pub mean_next : (d : ℕ) (mean : ℕ → List ℤ → Point) {m : Mesh} → Law
 mean_next d mean {m} law table h l =
     ap (λ k. mean k (totals d (map (λ x. get_or table x []) (ring m.next (m.next h))))) (period_next (face_rounds law) h l)
     ∙ ap (λ (f : ℕ → ℤ). mean (period m.next h) (map f (range_with_len 0 d))) (fun_ext (λ i.
-    ap total (map_map (λ p. coordinate p i) (λ x. get_or table x []) (ring m.next (m.next h)))
+    ap total (map-map (λ p. coordinate p i) (λ x. get_or table x []) (ring m.next (m.next h)))
     ∙ total_next (face_rounds law) (λ x. coordinate (get_or table x []) i) h l
-    ∙ ap total (sym (map_map (λ p. coordinate p i) (λ x. get_or table x []) (ring m.next h)))))
+    ∙ ap total (sym (map-map (λ p. coordinate p i) (λ x. get_or table x []) (ring m.next h)))))
 
 module _ {d : ℕ} {mean : ℕ → List ℤ → Point} {m : Mesh} (law : Lawful m) {before : List Point} where
   pub part_none : Part d mean m before 0 before

@@ -3,7 +3,6 @@ use Rattle.std.proofs.Common.{◌≡◌, ℕ, ◌+◌, ◌*◌, ◌/◌, ◌<◌
 use Rattle.std.proofs.lemmas.List.{length-set, length-map}
 use Rattle.std.proofs.lemmas.Bool.{cond_both, cond-true, cond-false, eqb-false, eq-eqb, ne_eqb, cases_eq}
 use Rattle.point.specs.Points.{Point}
-use Rattle.workpiece.specs.Outcomes.{Split}
 use Rattle.workpiece.proofs.Stores.{set_point}
 
 pub four_set : {X : Type 0} (point : X → Point) (t : List X) (h x : ℕ) (r : X) → 4 * h + 3 < length t
@@ -45,12 +44,6 @@ pub record Down (n : ℕ) (before : List Point) (h : ℕ) (cur : List Point) : T
   pub long : length cur ≡ length before
   pub here : (x : ℕ) → 4 * h ≤ x → x < 4 * n → get_or cur x [] ≡ get_or before (x / 4) []
   pub else_where : (x : ℕ) → (x < 4 * h) ⊎ (4 * n ≤ x) → get_or cur x [] ≡ get_or before x []
-
-pub down_none : (n : ℕ) (before : List Point) → Down n before n before
-down_none n before = record { long = refl; here = λ x l k. absurd (omega arith); else_where = λ x w. refl }
-
-pub down_all : {n : ℕ} {before after : List Point} → Down n before 0 after → Split n before after
-down_all d = record { long = d.long; here = λ x l. d.here x (omega arith) l; past = λ x l. d.else_where x (inr l) }
 
 pub down_more : {X : Type 0} (point : X → Point) (n : ℕ) (before : List Point) (t : List X) (h : ℕ) (r : X)
     → h < n → 4 * n ≤ length t → r ≡ get_or t h r → point r ≡ get_or (map point t) h [] → Down n before (h + 1) (map point t)

@@ -1,7 +1,7 @@
 -- What each call of a workpiece keeps, accepted or declined, beside any reckoning and with any places beyond those handed over.
-use Rattle.std.proofs.Common.{◌≡◌, ℕ, zero, suc, ◌+◌, ◌*◌, ◌/◌, ◌^◌, ◌<◌, ◌≤◌, Bool, true, false, cond, ltb, leb, ◌⊎◌, List, [], ◌∷◌, ◌++◌, map, length, get_or, ℤ, pos, ◌*ℤ◌, Ok, Err, Result, sym, refl, ap, ◌∙◌, subst, ap₂, inl, inr, arith}
+use Rattle.std.proofs.Common.{◌≡◌, ℕ, zero, suc, ◌+◌, ◌*◌, ◌/◌, ◌^◌, ◌<◌, ◌≤◌, Bool, true, false, cond, ◌&&◌, ltb, leb, ◌⊎◌, List, [], ◌∷◌, ◌++◌, map, length, get_or, ℤ, pos, ◌*ℤ◌, Ok, Err, Result, sym, refl, ap, ◌∙◌, subst, ap₂, inl, inr, arith}
 use Rattle.std.proofs.lemmas.List.{get_or_append_left, get_or-append_right, length-append, length-map}
-use Rattle.std.proofs.lemmas.Bool.{cases_lt, both_ways, cond-true, cond-false, and_parts, leb-true, ltb-true}
+use Rattle.std.proofs.lemmas.Bool.{cases_lt, both_ways, cond-true, and_parts, leb-true, ltb-true}
 use Rattle.mesh.specs.Mesh.{Mesh, Lawful, dual, ring, turn, among}
 use Rattle.mesh.specs.Count.{split, faces}
 use Rattle.mesh.proofs.Leads.{faces_same}
@@ -76,11 +76,6 @@ place_told numbers d slack w t len dart p r answer R rest faith =
     ap (λ x. An.Place x) (answer ∙ ap (λ n. reach_answer tt n dart len) faith.carried.n)
 
 -- ---- average
-average_declined : (d slack : ℕ) (w : Work) (t : List Point) (len : ℕ) → may_average w.averages w.carrier.n len ≡ false → Keeps d slack (Call.average len) w t w t
-average_declined d slack w t len no' R rest faith =
-    subst (λ S. Faithful d slack S w (t ++ rest))
-    (sym (cond-false (may_average R.averages R.carrier.n len) (after_average R) R (ap₂ (λ a n. may_average a n len) (sym faith.averaged_so) (sym faith.carried.n) ∙ no'))) faith
-
 average_accepted : {X : Type 0} {point : X → Point} {d slack : ℕ} {mean : ℕ → List ℤ → Point} → PlaceLaws point d slack mean
     → (w w' : Work) (ts : List X) (t' : List Point) → Lawful w.carrier
     → may_average w.averages w.carrier.n (length ts) ≡ true → Next 0 1 (dual w.carrier) w w' → Averaged d mean w.carrier (map point ts) t'
@@ -95,17 +90,6 @@ average_accepted {X} {point} {d} {slack} {mean} kind w w' ts t' law yes' next ou
     next (averaged_rest d mean law (map point ts) t' rest fits' out))
 
 module _ {S A X P Q : Type 0} (k : Ghosts S) (kd : Kind A X P Q) where
-  pub average_no : (w : Workpiece S) (t : List X) (r : Result ℕ WorkFault) → Lawful (work k w).carrier → may_average w.averages (work k w).carrier.n (length t) ≡ false → r ≡ average_answer w.averages (work k w).carrier (length t)
-      → AverageDone k kd w t r w t
-  average_no w t r law no' answer = record {
-    answer = answer;
-    held = refl;
-    accepted = λ yes'. absurd (both_ways _ no' yes');
-    declined = λ _. (refl, refl);
-    faithful = average_declined kd.width kd.slack (work k w) (map (place kd) t) (length t) no';
-    told = average_told kd.numbers kd.width kd.slack (work k w) (map (place kd) t) (length t) r law answer;
-  }
-
   pub average_yes : PlaceLaws (place kd) kd.width kd.slack (mean_point kd) → (w w' : Workpiece S) (t t' : List X) (r : Result ℕ WorkFault) → Lawful (work k w).carrier
       → may_average w.averages (work k w).carrier.n (length t) ≡ true → r ≡ average_answer w.averages (work k w).carrier (length t)
       → opened_skin w' ≡ opened_skin w → Next 0 1 (dual (work k w).carrier) (work k w) (work k w') → Averaged kd.width (mean_point kd) (work k w).carrier (map (place kd) t) (map (place kd) t')
@@ -126,11 +110,6 @@ split_rest n t t' rest fits out = record {
   here = λ x l. rest_left t' rest x (omega (arith, out.long)) ∙ out.here x l ∙ sym (rest_left t rest (x / 4) (omega arith));
   past = λ x l. rest_same t t' rest x out.long (out.past x l);
 }
-
-split_declined : (d slack : ℕ) (w : Work) (t : List Point) (len : ℕ) → may_split w.splits w.carrier.n len ≡ false → Keeps d slack (Call.split len) w t w t
-split_declined d slack w t len no' R rest faith =
-    subst (λ S. Faithful d slack S w (t ++ rest))
-    (sym (cond-false (may_split R.splits R.carrier.n len) (after_split R) R (ap₂ (λ a n. may_split a n len) (sym faith.split_so) (sym faith.carried.n) ∙ no'))) faith
 
 split_accepted : (d slack : ℕ) (w w' : Work) (t t' : List Point) (len : ℕ) → length t ≡ len → Lawful w.carrier → Lawful w'.carrier
     → may_split w.splits w.carrier.n len ≡ true → Next 1 0 (split w.carrier) w w' → Split w.carrier.n t t'
@@ -157,11 +136,6 @@ placed_rest {m} law dart l p t t' rest fits out = record {
     here x false e =
         rest_same t t' rest x out.long (out.here x ∙ ap (λ b. cond b p (get_or t x [])) e) ∙ ap (λ b. cond b p (get_or (t ++ rest) x [])) (sym e)
 
-place_declined : (d slack : ℕ) (w : Work) (t : List Point) (len dart : ℕ) (p : Point) → may_reach dart w.carrier.n len ≡ false → Keeps d slack (Call.place len dart p) w t w t
-place_declined d slack w t len dart p no' R rest faith =
-    subst (λ S. Faithful d slack S w (t ++ rest))
-    (sym (cond-false (may_reach dart R.carrier.n len) (after_place R dart p) R (ap (λ n. may_reach dart n len) (sym faith.carried.n) ∙ no'))) faith
-
 place_accepted : (d slack : ℕ) (w : Work) (t t' : List Point) (len dart : ℕ) (p : Point) → length t ≡ len → Lawful w.carrier
     → may_reach dart w.carrier.n len ≡ true → Placed w.carrier dart p t t' → Keeps d slack (Call.place len dart p) w t w t'
 place_accepted d slack w t t' len dart p long law yes' out R rest faith =
@@ -173,17 +147,6 @@ place_accepted d slack w t t' len dart p long law yes' out R rest faith =
     (place_keeps law faith dart p low (placed_rest law dart low p t t' rest (omega arith) out))
 
 module _ {S A X P Q : Type 0} (k : Ghosts S) (kd : Kind A X P Q) where
-  pub split_no : (w : Workpiece S) (t : List X) (r : Result (Unit {0}) WorkFault) → may_split (work k w).splits (work k w).carrier.n (length t) ≡ false → r ≡ split_answer (work k w).splits (work k w).carrier.n (length t)
-      → SplitDone k kd w t r w t
-  split_no w t r no' answer = record {
-    answer = answer;
-    held = refl;
-    accepted = λ yes'. absurd (both_ways _ no' yes');
-    declined = λ _. (refl, refl);
-    faithful = split_declined kd.width kd.slack (work k w) (map (place kd) t) (length t) no';
-    told = split_told kd.numbers kd.width kd.slack (work k w) (map (place kd) t) (length t) r answer;
-  }
-
   pub split_yes : (w w' : Workpiece S) (t t' : List X) (r : Result (Unit {0}) WorkFault) → Lawful (work k w).carrier → Lawful (work k w').carrier
       → may_split (work k w).splits (work k w).carrier.n (length t) ≡ true → r ≡ split_answer (work k w).splits (work k w).carrier.n (length t)
       → opened_skin w' ≡ opened_skin w → Next 1 0 (split (work k w).carrier) (work k w) (work k w') → Split (work k w).carrier.n (map (place kd) t) (map (place kd) t')
@@ -195,17 +158,6 @@ module _ {S A X P Q : Type 0} (k : Ghosts S) (kd : Kind A X P Q) where
     declined = λ no'. absurd (both_ways _ no' yes');
     faithful = split_accepted kd.width kd.slack (work k w) (work k w') (map (place kd) t) (map (place kd) t') (length t) (length-map t (place kd)) law law' yes' next out;
     told = split_told kd.numbers kd.width kd.slack (work k w) (map (place kd) t) (length t) r answer;
-  }
-
-  pub place_no : (dart : ℕ) (p : Point) (w : Workpiece S) (t : List X) (r : Result (Unit {0}) WorkFault) → may_reach dart (work k w).carrier.n (length t) ≡ false → r ≡ reach_answer tt (work k w).carrier.n dart (length t)
-      → PlaceDone k kd dart p w t r w t
-  place_no dart p w t r no' answer = record {
-    answer = answer;
-    same = refl;
-    accepted = λ yes'. absurd (both_ways _ no' yes');
-    declined = λ _. refl;
-    faithful = place_declined kd.width kd.slack (work k w) (map (place kd) t) (length t) dart p no';
-    told = place_told kd.numbers kd.width kd.slack (work k w) (map (place kd) t) (length t) dart p r answer;
   }
 
   pub place_yes : (dart : ℕ) (p : Point) (w : Workpiece S) (t t' : List X) (r : Result (Unit {0}) WorkFault) → Lawful (work k w).carrier
@@ -220,6 +172,33 @@ module _ {S A X P Q : Type 0} (k : Ghosts S) (kd : Kind A X P Q) where
     told = place_told kd.numbers kd.width kd.slack (work k w) (map (place kd) t) (length t) dart p r answer;
   }
 
+-- ---- what is reached at a dart
+pub reached : {X : Type 0} (x y : X) (n dart len : ℕ) → Ok y ≡ reach_answer x n dart len → (y ≡ x) × (may_reach dart n len ≡ true)
+reached {X} x y n dart len e = go (leb n len) (ltb dart n) e
+  where
+    go : (a b : Bool) → Ok y ≡ cond a (cond b (Ok x) (Err (NoDart dart))) (Err (Short n)) → (y ≡ x) × ((a && b) ≡ true)
+    go true true e = (cc, refl)
+    go true false e = let z : ◌≡◌ {A = ℕ} 0 1 = cc in absurd (omega arith)
+    go false b e = let z : ◌≡◌ {A = ℕ} 0 1 = cc in absurd (omega arith)
+
+-- with what is held put in the place of nothing
+pub reach_with : {X : Type 0} (x : X) (n dart len : ℕ) → ok_mapped (λ _. x) (reach_answer {X = Unit {0}} tt n dart len) ≡ reach_answer x n dart len
+reach_with x n dart len = go (leb n len) (ltb dart n)
+  where
+    go : (a b : Bool) → ok_mapped {X = Unit {0}} (λ _. x) (cond a (cond b (Ok tt) (Err (NoDart dart))) (Err (Short n))) ≡ cond a (cond b (Ok x) (Err (NoDart dart))) (Err (Short n))
+    go true true = refl
+    go true false = refl
+    go false b = refl
+
+-- a dart that is reached is one, and has a place
+pub within_reach : (n dart len : ℕ) → may_reach dart n len ≡ true → (n ≤ len) × (dart < n)
+within_reach n dart len e = let p = and_parts (leb n len) (ltb dart n) e in (leb-true n len p.0, ltb-true dart n p.1)
+
+read_point : {X : Type 0} (x p : X) (n dart len : ℕ) → Ok p ≡ reach_answer x n dart len → (n ≤ len) × (dart < n) × (p ≡ x)
+read_point x p n dart len e =
+    let r = reached x p n dart len e in
+    let w = within_reach n dart len r.1 in (w.0, w.1, r.0)
+
 -- ---- read
 done_mapped : {P : Type 0} (numbers : P → Point) (r : Result P WorkFault) → done (ok_mapped numbers r) ≡ done r
 done_mapped numbers (Ok p) = refl
@@ -232,14 +211,6 @@ done_reach x n dart len = go (leb n len) (ltb dart n)
     go true true = refl
     go true false = refl
     go false b = refl
-
-read_point : {X : Type 0} (x p : X) (n dart len : ℕ) → Ok p ≡ reach_answer x n dart len → (n ≤ len) × (dart < n) × (p ≡ x)
-read_point x p n dart len e = go (leb n len) (ltb dart n) refl refl e
-  where
-    go : (a b : Bool) → leb n len ≡ a → ltb dart n ≡ b → Ok p ≡ cond a (cond b (Ok x) (Err (NoDart dart))) (Err (Short n)) → (n ≤ len) × (dart < n) × (p ≡ x)
-    go true true a b e = (leb-true _ _ a, ltb-true _ _ b, cc)
-    go true false a b e = let z : ◌≡◌ {A = ℕ} 0 1 = cc in absurd (omega arith)
-    go false b a b' e = let z : ◌≡◌ {A = ℕ} 0 1 = cc in absurd (omega arith)
 
 module _ {S A X P Q : Type 0} (k : Ghosts S) (kd : Kind A X P Q) where
   pub read_done : (dart : ℕ) (w : Workpiece S) (t : List X) (r : Result P WorkFault)

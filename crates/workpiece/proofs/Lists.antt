@@ -2,6 +2,7 @@
 use Rattle.std.proofs.Common.{◌≡◌, ℕ, zero, suc, ◌+◌, ◌*◌, ◌/◌, ◌<◌, ◌≤◌, Bool, true, cond, eqb, ltb, ◌⊎◌, List, [], ◌∷◌, map, length, get_or, ℤ, pos, ◌+ℤ◌, ◌*ℤ◌, sym, refl, ap, ◌∙◌, subst, ap₂, inl, inr, mul_assoc, mul_comm, mul-div_cancel, add-one, arith}
 use lib.IntN.{+ℤ_comm, +ℤ_assoc, +ℤ_idl, +ℤ_idr}
 use Rattle.std.specs.List.{range_with_len}
+use Rattle.std.proofs.lemmas.Simd.{map-map}
 use Rattle.std.proofs.lemmas.List.FromFn.{get_or-map-range_with_len, length-map-range_with_len}
 use Rattle.std.proofs.lemmas.List.{same_lists, get_or-map, length-map}
 use Rattle.std.proofs.lemmas.Bool.{lt-ltb, cond-true, or_left, or_right, eq-eqb}
@@ -29,10 +30,6 @@ quotient k s l =
     r.1 ∙ ap (λ x. x * k) (sym (ap (λ x. x / k) r.1 ∙ mul-div_cancel r.0 (omega arith)))
 
 -- ---- lists
-pub map_map : {X Y Z : Type 0} (f : Y → Z) (g : X → Y) (xs : List X) → map f (map g xs) ≡ map (λ x. f (g x)) xs
-map_map f g [] = refl
-map_map f g (x ∷ xs) = ap (λ ys. f (g x) ∷ ys) (map_map f g xs)
-
 pub each_map : {X Y : Type 0} (P : Y → Type 0) (f : X → Y) (xs : List X) → Each (λ x. P (f x)) xs → Each P (map f xs)
 each_map P f [] e = tt
 each_map P f (x ∷ xs) e = (e.0, each_map P f xs e.1)
@@ -112,9 +109,9 @@ pub totals_more : (d : ℕ) (at : ℕ → Point) (k : ℕ) (f : ℕ → ℕ) (c 
     → one_more d (totals d (map at (orbit k f c))) (at (times k f c)) ≡ totals d (map at (orbit (suc k) f c))
 totals_more d at k f c =
     same_counting _ _ d (λ i l.
-    ap (λ z. z +ℤ coordinate (at (times k f c)) i) (totals_at d (map at (orbit k f c)) i l ∙ ap total (map_map (λ p. coordinate p i) at (orbit k f c)))
+    ap (λ z. z +ℤ coordinate (at (times k f c)) i) (totals_at d (map at (orbit k f c)) i l ∙ ap total (map-map (λ p. coordinate p i) at (orbit k f c)))
     ∙ sym (total_snoc (λ x. coordinate (at x) i) k f c)
-    ∙ ap total (sym (map_map (λ p. coordinate p i) at (orbit (suc k) f c))))
+    ∙ ap total (sym (map-map (λ p. coordinate p i) at (orbit (suc k) f c))))
 
 -- the point of a place that was read
 pub place_point : {X : Type 0} (point : X → Point) (ts : List X) (i : ℕ) (x : X) → i < length ts → x ≡ get_or ts i x → point x ≡ get_or (map point ts) i []

@@ -85,11 +85,6 @@ module _ {S A X P Q : Type 0} (k : Ghosts S) (kd : Kind A X P Q) where
       (whole_step s w w' t front a (subst (λ y. Acts k kd y w (take (min s.places (length t)) t) a w' front) (sym is)
       (subst (λ j. Acts k kd x w (take j t) a w' front) e acts)))
 
-  -- a step that leaves its part of the table as it was
-  pub step_looked : (s : Step P) (x : Action P) (w : Workpiece S) (n : ℕ) (t : List X) (a : Answer P)
-      → n ≡ min s.places (length t) → s.action ≡ x → Acts k kd x w (take n t) a w (take n t) → StepDone k kd s w t a w t
-  step_looked s x w n t a e is acts = subst (StepDone k kd s w t a w) (take-append-drop n t) (step_done s x w w n t (take n t) a e is acts)
-
 -- ---- steps in a row
 steps_push : (R : Reckoning) (cs : List Call) (c : Call) → steps R (cs ++ c ∷ []) ≡ step (steps R cs) c
 steps_push R [] c = refl
@@ -115,9 +110,6 @@ module _ {S A X P Q : Type 0} (k : Ghosts S) (kd : Kind A X P Q) where
   )
   chain_more (x ∷ ss) s w w' w'' t t' t'' answers a c d =
       (c.0, c.1 ++ a ∷ [], c.2, c.3, ap (λ xs. xs ++ a ∷ []) c.4, c.5, chain_more ss s c.2 w' w'' c.3 t' t'' c.1 a c.6 d)
-
-  pub ran_none : (w : Workpiece S) (t : List X) → Ran k kd [] w t [] w t
-  ran_none w t = record { chain = (refl, refl, refl); long = refl; faithful = λ R rest f. f; told = λ R rest f. refl }
 
   pub ran_more : {ss : List (Step P)} {s : Step P} {w w' w'' : Workpiece S} {t t' t'' : List X} {answers : List (Answer P)} {a : Answer P}
       → Ran k kd ss w t answers w' t' → length t'' ≡ length t' → StepDone k kd s w' t' a w'' t'' → Ran k kd (ss ++ s ∷ []) w t (answers ++ a ∷ []) w'' t''

@@ -1,5 +1,5 @@
 -- Writing round a ring.
-use Rattle.std.proofs.Common.{◌≡◌, ℕ, zero, suc, ◌+◌, ◌<◌, ◌≤◌, Bool, true, false, cond, ◌||◌, eqb, ◌⊎◌, List, [], map, length, get_or, set, sym, refl, ap, ◌∙◌, inl, inr, add-one, arith}
+use Rattle.std.proofs.Common.{◌≡◌, ℕ, ◌+◌, ◌<◌, Bool, true, false, cond, ◌||◌, eqb, ◌⊎◌, List, [], map, length, get_or, set, sym, refl, ap, ◌∙◌, inl, inr, add-one}
 use Rattle.std.proofs.lemmas.List.{get_or-set_same, get_or-set_other, map-set, length-map}
 use Rattle.std.proofs.lemmas.Bool.{cases_eq, eq-eqb, ne_eqb}
 use Rattle.mesh.specs.Mesh.{times, among}
@@ -30,22 +30,3 @@ written_more x c k f h p before now after e inv w =
     both true false = refl
     both false true = refl
     both false false = refl
-
--- the first place of a walk written, seen from after it
-pub written_first : (x h : ℕ) (f : ℕ → ℕ) (p before now : Point) → now ≡ cond (eqb x h) p before → now ≡ cond (among x (orbit 1 f h)) p now
-written_first x h f p before now w = go (eqb x h) refl
-  where
-    go : (b : Bool) → eqb x h ≡ b → now ≡ cond (eqb x h || false) p now
-    go true e = w ∙ ap (λ b. cond b p before) e ∙ sym (ap (λ b. cond (b || false) p now) e)
-    go false e = sym (ap (λ b. cond (b || false) p now) e)
-
--- and from before it, at the end
-pub written_all : (x h k : ℕ) (f : ℕ → ℕ) (p before now after : Point) → 1 ≤ k → now ≡ cond (eqb x h) p before
-    → after ≡ cond (among x (orbit k f h)) p now → after ≡ cond (among x (orbit k f h)) p before
-written_all x h zero f p before now after s w a = absurd (omega arith)
-written_all x h (suc k) f p before now after s w a = a ∙ go (eqb x h) (among x (orbit k f (f h))) w
-  where
-    go : (b c : Bool) → now ≡ cond b p before → cond (b || c) p now ≡ cond (b || c) p before
-    go true c w = refl
-    go false true w = refl
-    go false false w = w

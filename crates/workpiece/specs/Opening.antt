@@ -10,14 +10,18 @@ use Rattle.workpiece.specs.declared.fault.WorkFault.TheVariants.{Short, NoDart, 
 use Rattle.workpiece.specs.Reckoning.{opening}
 use Rattle.workpiece.specs.Law.{work, opened_skin, Faithful}
 
+-- the point of h is that of its turn
+abbrev pub Agreeing : Mesh → List Point → ℕ → Type 0
+Agreeing m t h = slice_index_or t h [] ≡ slice_index_or t (turn m h) []
+
 -- the point of h differs from that of its turn
 abbrev pub Differing : Mesh → List Point → ℕ → Type 0
-Differing m t h = slice_index_or t h [] ≡ slice_index_or t (turn m h) [] → ⊥
+Differing m t h = Agreeing m t h → ⊥
 
 -- each dart of m has a place, and the points agree round each vertex ring
 pub record Openable (m : Mesh) (t : List Point) : Type 0 where
   pub fits : m.n ≤ length t
-  pub agree : (h : ℕ) → h < m.n → slice_index_or t h [] ≡ slice_index_or t (turn m h) []
+  pub agree : (h : ℕ) → h < m.n → Agreeing m t h
 
 -- What is answered when m is to be opened with the table t: 1 by the darts, then 4 with the smallest dart that differs.
 abbrev pub MayOpen : Mesh → List Point → Result (Unit {0}) WorkFault → Type 0
@@ -25,7 +29,7 @@ MayOpen m t (Ok u) = Openable m t
 MayOpen m t (Err (Short k)) = (k ≡ m.n) × (length t < m.n)
 MayOpen m t (Err (NoDart k)) = ⊥
 MayOpen m t (Err (Differs h)) =
-    (m.n ≤ length t) × (h < m.n) × ((k : ℕ) → k < h → slice_index_or t k [] ≡ slice_index_or t (turn m k) []) × Differing m t h
+    (m.n ≤ length t) × (h < m.n) × ((k : ℕ) → k < h → Agreeing m t k) × Differing m t h
 MayOpen m t (Err TooManyDarts) = ⊥
 MayOpen m t (Err SplitsSpent) = ⊥
 MayOpen m t (Err AveragesSpent) = ⊥

@@ -1,5 +1,5 @@
 -- Runs: steps made one after the other, each with its own outcome, and the law over a whole run.
-use Rattle.std.specs.Prelude.{◌≡◌, ℕ, ◌<◌, ◌≤◌, min, cond, ◌⊎◌, List, [], ◌∷◌, ◌++◌, map, length, take, drop, Some, None, Ok, Err, Option, Result, nat_le}
+use Rattle.std.specs.Prelude.{◌≡◌, ℕ, ◌<◌, ◌≤◌, min, cond, ◌⊎◌, List, [], ◌∷◌, ◌++◌, map, length, take, drop, Ok, Err, Result, nat_le}
 use Rattle.mesh.specs.Mesh.{Mesh}
 use Rattle.skin.specs.Skins.{mesh}
 use Rattle.skin.specs.declared.skin.Skin.{Ghosts}
@@ -13,7 +13,7 @@ use Rattle.workpiece.specs.declared.piece.Action.TheVariants as Ac
 use Rattle.workpiece.specs.declared.piece.Step.{Step}
 use Rattle.workpiece.specs.declared.piece.Answer.{Answer}
 use Rattle.workpiece.specs.declared.piece.Answer.TheVariants as An
-use Rattle.workpiece.specs.declared.piece.Outcome.{Outcome}
+use Rattle.workpiece.specs.declared.piece.Declined.{Declined}
 use Rattle.workpiece.specs.declared.fault.WorkFault.{WorkFault}
 use Rattle.workpiece.specs.declared.fault.WorkFault.TheVariants.{Short}
 use Rattle.workpiece.specs.Reckoning.{Reckoning, opening, Call, step, steps}
@@ -101,12 +101,9 @@ abbrev pub Declines : Mesh → List Point → ℕ → ℕ → WorkFault → Type
 Declines m t wanted places f = MayOpen m t (Err f) ⊎ (Openable m t × (places < wanted) × (f ≡ Short wanted))
 
 -- Carried out; or declined for its fault, with a new workpiece over the skin and no place and no answer changed.
-abbrev pub OutcomeLaw : {S A X P Q : Type 0} → Ghosts S → Kind A X P Q → List (Step P) → S → List X → List (Answer P)
-    → Option WorkFault → Workpiece S → List X → List (Answer P) → Type 0
-OutcomeLaw k kd ss skin t answers None w t' answers' =
+abbrev pub WholeLaw : {S A X P Q : Type 0} → Ghosts S → Kind A X P Q → List (Step P) → S → List X → List (Answer P)
+    → Result (Workpiece S) (Declined S) → List X → List (Answer P) → Type 0
+WholeLaw k kd ss skin t answers (Ok w) t' answers' =
     CarriedOut k kd ss skin t (take (length ss) answers') w t' × (length ss ≤ length answers) × (drop (length ss) answers' ≡ drop (length ss) answers)
-OutcomeLaw k kd ss skin t answers (Some f) w t' answers' =
-    Opened k skin w × Declines (mesh k skin) (map (place kd) t) (length ss) (length answers) f × (t' ≡ t) × (answers' ≡ answers)
-
-abbrev pub WholeLaw : {S A X P Q : Type 0} → Ghosts S → Kind A X P Q → List (Step P) → S → List X → List (Answer P) → Outcome S → List X → List (Answer P) → Type 0
-WholeLaw k kd ss skin t answers o t' answers' = OutcomeLaw k kd ss skin t answers o.declined o.piece t' answers'
+WholeLaw k kd ss skin t answers (Err d) t' answers' =
+    Opened k skin d.piece × Declines (mesh k skin) (map (place kd) t) (length ss) (length answers) d.fault × (t' ≡ t) × (answers' ≡ answers)

@@ -1,20 +1,42 @@
 // The calls of a workpiece: opening, the six calls, and runs of them.
-ghost use Rattle.std.specs.Prelude.{◌≡◌, ◌<◌, map, length, nat_lt, slice_set};
+ghost use Rattle.std.specs.Prelude.{◌≡◌, ◌<◌, ◌≤◌, map, length, Decides, MatchResult};
 ghost use Rattle.skin.specs.Skins.{mesh};
 ghost use Rattle.point.specs.Kinds.{place as placing};
 ghost use Rattle.workpiece.specs.Law.{work, opened_skin};
 ghost use Rattle.workpiece.specs.Calls.{AverageDone, SplitDone, PlaceDone, ReadDone, CountDone};
-ghost use Rattle.workpiece.specs.Opening.{MayOpen, Opened};
+ghost use Rattle.workpiece.specs.declared.fault.WorkFault.TheVariants.{Short};
+ghost use Rattle.workpiece.specs.Answers.{reach_answer};
+ghost use Rattle.workpiece.specs.Opening.{Agreeing, MayOpen, Opened};
 ghost use Rattle.workpiece.specs.Runs.{StepDone, RunDone, WholeLaw};
 
 use crate::carrier::Carrier;
 use crate::fault::WorkFault;
-use crate::piece::{AVERAGES, Action, Answer, Outcome, SPLITS, Step, Workpiece};
+use crate::piece::{AVERAGES, Action, Answer, Declined, SPLITS, Step, Workpiece};
 use crate::rings::{average_faces, following, ring_store, spread};
 use mesh::DARTS;
 use point::kind::PointKind;
 use skin::count::{Counts, Ring, count as counted};
 use skin::skin::Skin;
+
+// Declines with 1 where a table has fewer places than are needed.
+fn room<T>(table: &[T], places: usize) -> Result<(), WorkFault>
+    ensures { MatchResult result (λ _. places ≤ length table.now) (λ f. (f ≡ Short places) × (length table.now < places)) }
+{
+    if table.len() < places {
+        return Err(WorkFault::Short(places));
+    }
+    Ok(())
+}
+
+// Whether the point of a dart is that of its turn.
+fn agrees<S: Skin, K: PointKind>(skin: &S, table: &[K::Record], h: u32) -> bool
+    requires within { h < S.Skin.n skin.now }
+    requires covers { S.Skin.n skin.now ≤ length table.now }
+    ensures { Decides result (Agreeing (mesh S.Skin skin.now) (map (placing K.PointKind) table.now) h) }
+{
+    let t = following(skin, Ring::Vertex, h);
+    K::alike(&K::load(&table[h as usize]), &K::load(&table[t as usize]))
+}
 
 // Looks whether a skin and a table of points can be opened: 1 by the darts, then 4 with the smallest dart whose point differs from that of
 // its turn.
@@ -22,18 +44,11 @@ pub fn may_open<S: Skin, K: PointKind>(skin: &S, table: &[K::Record]) -> Result<
     ensures { MayOpen (mesh S.Skin skin.now) (map (placing K.PointKind) table.now) result }
 {
     let n = skin.n();
-    if table.len() < n as usize {
-        return Err(WorkFault::Short(n as usize));
+    room(table, n as usize)?;
+    match (0..n).find(|h| !agrees::<S, K>(skin, table, *h)) {
+        Some(h) => Err(WorkFault::Differs(h)),
+        None => Ok(()),
     }
-    for h in 0..n {
-        let t = following(skin, Ring::Vertex, h);
-        let a = K::load(&table[h as usize]);
-        let b = K::load(&table[t as usize]);
-        if !K::alike(&a, &b) {
-            return Err(WorkFault::Differs(h));
-        }
-    }
-    Ok(())
 }
 
 impl<S: Skin> Workpiece<S> {
@@ -75,29 +90,24 @@ impl<S: Skin> Workpiece<S> {
         self.averages
     }
 
-    // Whether one more split may be made.
-    fn split_left(&self) -> bool
-        ensures { result ≡ nat_lt self.now.carrier.ladder.count 8 }
+    // What a place and a read look for: 1 by the darts, then 2.
+    fn reach<T>(&self, table: &[T], dart: u32) -> Result<(), WorkFault>
+        ensures { result ≡ reach_answer tt (work S.Skin self.now).carrier.n dart (length table.now) }
     {
-        self.carrier.splits() < SPLITS
-    }
-
-    // Whether one more average may be made.
-    fn average_left(&self) -> bool
-        ensures { result ≡ nat_lt self.now.averages 255 }
-    {
-        self.averages < AVERAGES
+        let n = self.carrier.n();
+        room(table, n as usize)?;
+        if dart >= n {
+            return Err(WorkFault::NoDart(dart));
+        }
+        Ok(())
     }
 
     // Gives each dart the mean over its face ring; the carrier becomes its Dual. Answers how many rings there are.
     pub fn average<K: PointKind>(&mut self, table: &mut [K::Record]) -> Result<u32, WorkFault>
         ensures { AverageDone S.Skin K.PointKind self.old table.old result self.new table.new }
     {
-        let n = self.carrier.n();
-        if table.len() < n as usize {
-            return Err(WorkFault::Short(n as usize));
-        }
-        if !self.average_left() {
+        room(table, self.carrier.n() as usize)?;
+        if self.averages >= AVERAGES {
             return Err(WorkFault::AveragesSpent);
         }
         let rings = average_faces::<Carrier<S>, K>(&self.carrier, table);
@@ -110,7 +120,7 @@ impl<S: Skin> Workpiece<S> {
     pub fn split<K: PointKind>(&mut self, table: &mut [K::Record]) -> Result<(), WorkFault>
         ensures { SplitDone S.Skin K.PointKind self.old table.old result self.new table.new }
     {
-        if !self.split_left() {
+        if self.carrier.splits() >= SPLITS {
             return Err(WorkFault::SplitsSpent);
         }
         let n = self.carrier.n();
@@ -118,9 +128,7 @@ impl<S: Skin> Workpiece<S> {
         if more > DARTS as usize {
             return Err(WorkFault::TooManyDarts);
         }
-        if table.len() < more {
-            return Err(WorkFault::Short(more));
-        }
+        room(table, more)?;
         spread::<K>(table, n);
         self.carrier.to_split();
         Ok(())
@@ -135,13 +143,7 @@ impl<S: Skin> Workpiece<S> {
     ) -> Result<(), WorkFault>
         ensures { PlaceDone S.Skin K.PointKind dart (K.PointKind.numbers point) self.old table.old result self.new table.new }
     {
-        let n = self.carrier.n();
-        if table.len() < n as usize {
-            return Err(WorkFault::Short(n as usize));
-        }
-        if dart >= n {
-            return Err(WorkFault::NoDart(dart));
-        }
+        self.reach(table, dart)?;
         let stored = K::store(&point);
         ring_store::<Carrier<S>, K>(&self.carrier, table, dart, Ring::Vertex, stored);
         Ok(())
@@ -151,13 +153,7 @@ impl<S: Skin> Workpiece<S> {
     pub fn read<K: PointKind>(&self, table: &[K::Record], dart: u32) -> Result<K::Point, WorkFault>
         ensures { ReadDone S.Skin K.PointKind dart self.now table.now result }
     {
-        let n = self.carrier.n();
-        if table.len() < n as usize {
-            return Err(WorkFault::Short(n as usize));
-        }
-        if dart >= n {
-            return Err(WorkFault::NoDart(dart));
-        }
+        self.reach(table, dart)?;
         Ok(K::load(&table[dart as usize]))
     }
 
@@ -165,10 +161,7 @@ impl<S: Skin> Workpiece<S> {
     pub fn count<K: PointKind>(&self, table: &[K::Record]) -> Result<Counts, WorkFault>
         ensures { CountDone S.Skin K.PointKind self.now table.now result }
     {
-        let n = self.carrier.n();
-        if table.len() < n as usize {
-            return Err(WorkFault::Short(n as usize));
-        }
+        room(table, self.carrier.n() as usize)?;
         Ok(counted(&self.carrier))
     }
 
@@ -180,17 +173,15 @@ impl<S: Skin> Workpiece<S> {
     ) -> Answer<K::Point>
         ensures { StepDone S.Skin K.PointKind step self.old table.old result self.new table.new }
     {
-        let front = step.places.min(table.len());
+        let places = step.places.min(table.len());
+        let front = &mut table[..places];
+        // A run is a list of steps, of which the law is stated, so what to call comes as a value.
         match step.action {
-            Action::Split => Answer::Split(self.split::<K>(&mut table[0..front])),
-            Action::Average => Answer::Average(self.average::<K>(&mut table[0..front])),
-            Action::Place(dart, point) => Answer::Place(self.place::<K>(
-                &mut table[0..front],
-                dart,
-                point,
-            )),
-            Action::Read(dart) => Answer::Read(self.read::<K>(&table[0..front], dart)),
-            Action::Count => Answer::Count(self.count::<K>(&table[0..front])),
+            Action::Split => Answer::Split(self.split::<K>(front)),
+            Action::Average => Answer::Average(self.average::<K>(front)),
+            Action::Place(dart, point) => Answer::Place(self.place::<K>(front, dart, point)),
+            Action::Read(dart) => Answer::Read(self.read::<K>(front, dart)),
+            Action::Count => Answer::Count(self.count::<K>(front)),
         }
     }
 
@@ -203,23 +194,14 @@ impl<S: Skin> Workpiece<S> {
     ) -> Result<(), WorkFault>
         ensures { RunDone S.Skin K.PointKind steps.now self.old table.old answers.old result self.new table.new answers.new }
     {
-        if answers.len() < steps.len() {
-            return Err(WorkFault::Short(steps.len()));
-        }
-        for i in 0..steps.len() {
-            let answer = self.make::<K>(table, steps[i]);
-            put(answers, i, answer);
+        room(answers, steps.len())?;
+        // (of what is written through a zip of iter_mut the check learns nothing)
+        let wanted = &mut answers[..steps.len()];
+        for (i, answer) in wanted.iter_mut().enumerate() {
+            *answer = self.make::<K>(table, steps[i]);
         }
         Ok(())
     }
-}
-
-// Puts x at place i.
-fn put<T: Copy>(places: &mut [T], i: usize, x: T)
-    requires { i < length places.old }
-    ensures { places.new ≡ slice_set places.old i x }
-{
-    places[i] = x;
 }
 
 // Opens a skin with a table of points, makes steps one after the other, and answers each. It looks for what the opening is declined for, and
@@ -229,24 +211,16 @@ pub fn open_and_run<S: Skin, K: PointKind>(
     table: &mut [K::Record],
     steps: &[Step<K::Point>],
     answers: &mut [Answer<K::Point>],
-) -> Outcome<S>
+) -> Result<Workpiece<S>, Declined<S>>
     ensures { WholeLaw S.Skin K.PointKind steps.now skin table.old answers.old result table.new answers.new }
 {
     if let Err(fault) = may_open::<S, K>(&skin, table) {
-        return Outcome {
-            piece: Workpiece::open(skin),
-            declined: Some(fault),
-        };
+        let piece = Workpiece::open(skin);
+        return Err(Declined { piece, fault });
     }
     let mut piece = Workpiece::open(skin);
     match piece.run::<K>(table, steps, answers) {
-        Ok(()) => Outcome {
-            piece,
-            declined: None,
-        },
-        Err(fault) => Outcome {
-            piece,
-            declined: Some(fault),
-        },
+        Ok(()) => Ok(piece),
+        Err(fault) => Err(Declined { piece, fault }),
     }
 }

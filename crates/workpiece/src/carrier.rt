@@ -3,10 +3,7 @@ ghost use Rattle.std.specs.Prelude.{◌≡◌, ℕ, ◌+◌, ◌<◌};
 ghost use Rattle.mesh.specs.Mesh.{Mesh, Same, dual, flipped};
 ghost use Rattle.mesh.specs.Count.{split};
 ghost use Rattle.mesh.specs.Rungs.{level};
-ghost use Rattle.mesh.proofs.RungLaws.{level_lawful};
-ghost use Rattle.mesh.proofs.Same.{flipped_lawful};
-ghost use Rattle.skin.specs.Skins.{mesh};
-ghost use Rattle.workpiece.specs.Carriers.{carried};
+ghost use Rattle.workpiece.specs.Carriers.{carried, carried_lawful};
 
 use skin::ladder::Ladder;
 use skin::skin::Skin;
@@ -69,15 +66,15 @@ impl<S: Skin> Carrier<S> {
 }
 
 impl<S: Skin> Skin for Carrier<S> {
-    ghost n = { λ c. (flipped c.dual (level c.ladder.count c.ladder.bits (mesh S.Skin c.ladder.base))).n };
+    ghost n = { λ c. (carried S.Skin c).n };
 
-    ghost next = { λ c. (flipped c.dual (level c.ladder.count c.ladder.bits (mesh S.Skin c.ladder.base))).next };
+    ghost next = { λ c. (carried S.Skin c).next };
 
-    ghost prev = { λ c. (flipped c.dual (level c.ladder.count c.ladder.bits (mesh S.Skin c.ladder.base))).prev };
+    ghost prev = { λ c. (carried S.Skin c).prev };
 
-    ghost twin = { λ c. (flipped c.dual (level c.ladder.count c.ladder.bits (mesh S.Skin c.ladder.base))).twin };
+    ghost twin = { λ c. (carried S.Skin c).twin };
 
-    ghost lawful = { λ c. flipped_lawful c.dual (level c.ladder.count c.ladder.bits (mesh S.Skin c.ladder.base)) (level_lawful c.ladder.count c.ladder.bits (mesh S.Skin c.ladder.base) (S.Skin.lawful c.ladder.base)) };
+    ghost lawful = { carried_lawful S.Skin };
 
     fn n(&self) -> u32 {
         self.ladder.n()
@@ -85,8 +82,7 @@ impl<S: Skin> Skin for Carrier<S> {
 
     fn next(&self, h: u32) -> Option<u32> {
         if self.dual {
-            let t = self.ladder.twin(h)?;
-            self.ladder.next(t)
+            self.ladder.turn(h)
         } else {
             self.ladder.next(h)
         }
@@ -94,8 +90,7 @@ impl<S: Skin> Skin for Carrier<S> {
 
     fn prev(&self, h: u32) -> Option<u32> {
         if self.dual {
-            let p = self.ladder.prev(h)?;
-            self.ladder.twin(p)
+            self.ladder.unturn(h)
         } else {
             self.ladder.prev(h)
         }

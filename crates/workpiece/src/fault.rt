@@ -21,19 +21,18 @@ pub enum WorkFault {
     AveragesSpent,
 }
 
-impl WorkFault {
+impl From<WorkFault> for Refusal {
+    ghost from_gives = { λ f r. r ≡ refusal_of f };
+
     // The number of the cause and the value returned.
-    pub fn refusal(self) -> Refusal
-        ensures { result ≡ refusal_of self }
-    {
-        let (number, value) = match self {
-            WorkFault::Short(places) => (1, Some(places as i128)),
-            WorkFault::NoDart(dart) => (2, Some(dart as i128)),
-            WorkFault::Differs(dart) => (4, Some(dart as i128)),
-            WorkFault::TooManyDarts => (5, None),
-            WorkFault::SplitsSpent => (6, None),
-            WorkFault::AveragesSpent => (7, None),
-        };
-        Refusal { number, value }
+    fn from(fault: WorkFault) -> Refusal {
+        match fault {
+            WorkFault::Short(places) => Refusal::with(1, places as i128),
+            WorkFault::NoDart(dart) => Refusal::with(2, dart as i128),
+            WorkFault::Differs(dart) => Refusal::with(4, dart as i128),
+            WorkFault::TooManyDarts => Refusal::bare(5),
+            WorkFault::SplitsSpent => Refusal::bare(6),
+            WorkFault::AveragesSpent => Refusal::bare(7),
+        }
     }
 }

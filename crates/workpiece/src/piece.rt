@@ -43,10 +43,9 @@ pub enum Answer<P> {
     Count(Result<Counts, WorkFault>),
 }
 
-// What became of an opening and its steps: the workpiece, which is new where the call was declined, and the fault for which it was.
-// (A `Result` cannot hold a skin over lent tables.)
+// An opening with a run that was declined: the workpiece, which is new, and the fault.
 #[derive(Drop)]
-pub struct Outcome<S> {
+pub struct Declined<S> {
     pub piece: Workpiece<S>,
-    pub declined: Option<WorkFault>,
+    pub fault: WorkFault,
 }

@@ -1,4 +1,6 @@
 // The work round rings: sums and means over face rings, and writing round a ring.
+// (A struct of a skin with its lent table would hold `covers`, but each of its methods would have to promise that the skin stays. That h is
+// a dart is asked by each call: a type of darts would have to borrow the skin again.)
 ghost use Rattle.std.specs.Prelude.{◌≡◌, ℕ, ◌*◌, ◌<◌, ◌≤◌, true, false, [], map, length, MatchOption, slice_index_or};
 ghost use Rattle.mesh.specs.Mesh.{ring as round};
 ghost use Rattle.mesh.specs.Count.{faces, leads};
@@ -10,6 +12,7 @@ ghost use Rattle.workpiece.specs.Outcomes.{ring_mean, Stored, Averaged, Split};
 
 use point::kind::PointKind;
 use skin::count::{Ring, follow};
+use skin::orbit::orbit;
 use skin::skin::Skin;
 
 // The dart after h in its ring.
@@ -26,19 +29,17 @@ fn lead_sum<S: Skin, K: PointKind>(skin: &S, table: &[K::Record], h: u32) -> Opt
     requires covers { S.Skin.n skin.now ≤ length table.now }
     ensures { MatchOption result (leads (S.Skin.next skin.now) h ≡ false) (λ s. (leads (S.Skin.next skin.now) h ≡ true) × (K.PointKind.count s ≡ length (round (S.Skin.next skin.now) h)) × (K.PointKind.sums s ≡ totals K.PointKind.width (map (λ x. slice_index_or (map (place K.PointKind) table.now) x []) (round (S.Skin.next skin.now) h)))) }
 {
+    // (the dart before tells most darts that do not lead sooner than the walk)
+    if skin.prev(h).unwrap() < h {
+        return None;
+    }
     let mut sum = K::start();
-    let first = K::load(&table[h as usize]);
-    let _ = K::add(&mut sum, &first);
-    let mut c = following(skin, Ring::Face, h);
-    let mut k = 1u32;
-    while c != h {
-        if c < h {
+    for d in orbit(skin, Ring::Face, h) {
+        if d < h {
             return None;
         }
-        let p = K::load(&table[c as usize]);
-        let _ = K::add(&mut sum, &p);
-        c = following(skin, Ring::Face, c);
-        k += 1;
+        // a sum has room for the 64 darts that a ring may have
+        let _ = K::add(&mut sum, &K::load(&table[d as usize]));
     }
     Some(sum)
 }
@@ -55,13 +56,8 @@ pub(crate) fn ring_store<S: Skin, K: PointKind>(
     requires covers { S.Skin.n skin.now ≤ length table.old }
     ensures { Stored (along ring (mesh S.Skin skin.now)) h (place K.PointKind p) (map (place K.PointKind) table.old) (map (place K.PointKind) table.new) }
 {
-    table[h as usize] = p;
-    let mut c = following(skin, ring, h);
-    let mut k = 1u32;
-    while c != h {
-        table[c as usize] = p;
-        c = following(skin, ring, c);
-        k += 1;
+    for d in orbit(skin, ring, h) {
+        table[d as usize] = p;
     }
 }
 
@@ -104,6 +100,7 @@ pub(crate) fn spread<K: PointKind>(table: &mut [K::Record], n: u32)
     for h in (0..n).rev() {
         let p = table[h as usize];
         let at = 4 * h as usize;
+        // (four places copied as an array take a third longer)
         table[at] = p;
         table[at + 1] = p;
         table[at + 2] = p;

@@ -2,21 +2,23 @@
 use Rattle.std.proofs.Common.{◌≡◌, ℕ, zero, suc, ◌+◌, ◌-◌, ◌<◌, ◌≤◌, Bool, true, false, List, [], ◌∷◌, ◌++◌, map, length, get_or, take, filter, sym, refl, ap, ◌∙◌, ⊎_elim, append_assoc, suc-add, zero-add, arith, length-append}
 use Rattle.std.specs.List.{range_with_len, AllByRecursion}
 use Rattle.std.proofs.lemmas.List.FromFn.{length-range_with_len, get_or-range_with_len, get_or-map-range_with_len, length-map-range_with_len, fill_by_all}
+use Rattle.std.proofs.lemmas.Grind.{flat_map-append}
 use Rattle.std.proofs.lemmas.List.Elements.{filter-append}
 use Rattle.std.proofs.ByRecursion.{All-from_get_or, All-get_or}
 use Rattle.std.proofs.lemmas.List.{length-map, get_or-map, get_or_at, get_or-append-add, get_or_append_left, take_at, flat_map_more}
 use Rattle.std.proofs.lemmas.Bool.{cases_Bool, cases_lt, cond-true, cond-false}
 use Rattle.mesh.specs.Mesh.{Mesh, Lawful, turn, ring, times}
-use Rattle.mesh.specs.Count.{leads, rings, vertices}
+use Rattle.mesh.specs.Count.{leads, rings, vertices, leaders}
 use Rattle.mesh.proofs.Rings.{on_steps, on_sym, ring_at, ring_pos, ring_same}
 use Rattle.mesh.proofs.Leads.{decides_leads}
 use Rattle.mesh.proofs.Ranks.{rank_below, rank_every}
 use Rattle.sheet.specs.Sheet.{Sheet, corners_of, corner_count, PointIn}
 use Rattle.point.specs.declared.solid.SolidRecord.{SolidRecord}
 use Rattle.writer.specs.Points.{origin, meant, point_at}
-use Rattle.writer.specs.Listing.{leaders, lead, vertex_of, corners_from, sheet_of}
+use Rattle.writer.specs.Listing.{lead, vertex_of, corners_from, sheet_of}
 use Rattle.writer.specs.Drawn.{Drawn, corner_at, start}
-use Rattle.writer.proofs.Leaders.{leaders_at, leaders_count, lead_on, lead_down, lead_lead, lead_leads, lead_short}
+use Rattle.mesh.proofs.Leaders.{leaders_count}
+use Rattle.writer.proofs.Leaders.{leaders_at, lead_on, lead_down, lead_lead, lead_leads, lead_short}
 use Rattle.writer.proofs.Limits.{vertex_below, meant_same}
 
 -- a count that goes on
@@ -30,10 +32,6 @@ counting_append a (suc j) k =
 kept_none : (p : ℕ → Bool) (xs : List ℕ) → AllByRecursion (λ x. p x ≡ false) xs → filter p xs ≡ []
 kept_none p [] a = refl
 kept_none p (x ∷ xs) a = cond-false (p x) (x ∷ filter p xs) (filter p xs) a.0 ∙ kept_none p xs a.1
-
-joined_append : (xs ys : List (List ℕ)) → corners_of (xs ++ ys) ≡ corners_of xs ++ corners_of ys
-joined_append [] ys = refl
-joined_append (x ∷ xs) ys = ap (λ l. x ++ l) (joined_append xs ys) ∙ sym (append_assoc x (corners_of xs) (corners_of ys))
 
 -- of the darts of a ring that are numbered on from a, a alone leads
 run_leader : (f : ℕ → ℕ) (a k : ℕ) → length (ring f a) ≤ 64 → ring f a ≡ range_with_len a k → filter (leads f) (range_with_len a k) ≡ a ∷ []
@@ -171,7 +169,7 @@ module _ (s : Sheet) (m : Mesh) (l : Lawful m) (table : List SolidRecord) (D : D
       given k = get_or vs k 0
 
       all : corners_of s.faces ≡ corners_of pre ++ (vs ++ corners_of fs)
-      all = ap corners_of e ∙ joined_append pre (vs ∷ fs)
+      all = ap corners_of e ∙ flat_map-append (λ x. x) pre (vs ∷ fs)
 
       at : (k : ℕ) → k < length vs → get_or (map (vertex_of m) (range_with_len a (length vs))) k 0 ≡ given k
       at k b =
@@ -218,7 +216,7 @@ module _ (s : Sheet) (m : Mesh) (l : Lawful m) (table : List SolidRecord) (D : D
             arith,
             D.darts,
             ap (λ x. length (corners_of x)) e,
-            ap length (joined_append pre (vs ∷ fs)),
+            ap length (flat_map-append (λ x. x) pre (vs ∷ fs)),
             length-append (corners_of pre) (vs ++ corners_of fs),
             length-append vs (corners_of fs),
           )

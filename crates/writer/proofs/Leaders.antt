@@ -1,52 +1,13 @@
--- The darts that lead their rings, one by one, and the smallest dart of a ring.
-use Rattle.std.proofs.Common.{◌≡◌, ℕ, zero, suc, ◌+◌, ◌<◌, ◌≤◌, min, true, false, cond, ◌⊎◌, List, [], ◌∷◌, ◌++◌, length, get_or, filter, sym, refl, ap, ◌∙◌, subst, inl, inr, ⊎_elim, map-id, add-one, arith}
-use Rattle.std.specs.List.{range_with_len}
-use Rattle.std.proofs.lemmas.List.{append-nil, length_push, get_or_push, get_or_append_left}
-use Rattle.std.proofs.lemmas.Bool.{cases_Bool, cases_eq, cases_lt, cond-true, cond-false, true≢false}
-use Rattle.std.proofs.lemmas.List.FromFn.{filter_of_map_range_with_len_more}
+-- The smallest dart of a ring.
+use Rattle.std.proofs.Common.{◌≡◌, ℕ, zero, suc, ◌+◌, ◌<◌, ◌≤◌, min, true, false, ◌⊎◌, List, [], ◌∷◌, ◌++◌, length, get_or, sym, refl, ap, ◌∙◌, subst, inl, inr, ⊎_elim, add-one, arith}
+use Rattle.std.proofs.lemmas.List.{length_push, get_or_push, get_or_append_left}
+use Rattle.std.proofs.lemmas.Bool.{cases_Bool, cases_eq, cases_lt, true≢false}
 use Rattle.mesh.specs.Mesh.{times, ring, Short}
-use Rattle.mesh.specs.Count.{leads, rings}
+use Rattle.mesh.specs.Count.{leads, rings, leaders}
 use Rattle.mesh.proofs.Rings.{On, on_steps, on_trans, on_sym, times_zero, ring_at, ring_same}
-use Rattle.mesh.proofs.Leads.{decides_leads, count_none, count_yes, count_no}
-use Rattle.writer.specs.Listing.{leaders, least, lead}
-
-pub leaders_none : (f : ℕ → ℕ) → leaders f 0 ≡ []
-unfolding leaders
-leaders_none f = refl
-
-leaders_more : (f : ℕ → ℕ) (h : ℕ) → leaders f (h + 1) ≡ leaders f h ++ cond (leads f h) (h ∷ []) []
-unfolding leaders
-leaders_more f h =
-    ap (filter (leads f)) (sym (map-id (range_with_len 0 (h + 1))))
-    ∙ filter_of_map_range_with_len_more (leads f) (λ x. x) 0 h h (omega arith)
-    ∙ ap (λ x. filter (leads f) x ++ cond (leads f h) (h ∷ []) []) (map-id (range_with_len 0 h))
-
-pub leaders_yes : (f : ℕ → ℕ) (h : ℕ) → leads f h ≡ true → leaders f (h + 1) ≡ leaders f h ++ h ∷ []
-leaders_yes f h e = leaders_more f h ∙ ap (λ x. leaders f h ++ x) (cond-true (leads f h) (h ∷ []) [] e)
-
-pub leaders_no : (f : ℕ → ℕ) (h : ℕ) → leads f h ≡ false → leaders f (h + 1) ≡ leaders f h
-leaders_no f h e = leaders_more f h ∙ ap (λ x. leaders f h ++ x) (cond-false (leads f h) (h ∷ []) [] e) ∙ append-nil (leaders f h)
-
--- a fact of the leaders below n, shown dart by dart
-pub leaders_by : (f : ℕ → ℕ) (P : ℕ → List ℕ → Type 0) → P 0 [] →
-    ((h : ℕ) → leads f h ≡ true → P h (leaders f h) → P (h + 1) (leaders f h ++ h ∷ [])) →
-    ((h : ℕ) → leads f h ≡ false → P h (leaders f h) → P (h + 1) (leaders f h)) →
-    (n : ℕ) → P n (leaders f n)
-leaders_by f P none led not-led zero = subst (P 0) (sym (leaders_none f)) none
-leaders_by f P none led not-led (suc n) =
-    let i = leaders_by f P none led not-led n in
-    subst (λ x. P x (leaders f x)) (add-one n)
-    (⊎_elim
-    (λ e. subst (P (n + 1)) (sym (leaders_yes f n e)) (led n e i))
-    (λ e. subst (P (n + 1)) (sym (leaders_no f n e)) (not-led n e i))
-    (cases_Bool (leads f n)))
-
--- there are as many as rings
-pub leaders_count : (f : ℕ → ℕ) (n : ℕ) → length (leaders f n) ≡ rings f n
-leaders_count f =
-    leaders_by f (λ n xs. length xs ≡ rings f n) (count_none (leads f))
-    (λ h e i. length_push (leaders f h) h ∙ count_yes (leads f) h (length (leaders f h)) i e)
-    (λ h e i. count_no (leads f) h (length (leaders f h)) i e)
+use Rattle.mesh.proofs.Leads.{decides_leads}
+use Rattle.mesh.proofs.Leaders.{leaders_yes, leaders_no, leaders_count}
+use Rattle.writer.specs.Listing.{least, lead}
 
 least_start : (a : ℕ) (xs : List ℕ) → least a xs ≤ a
 unfolding least

@@ -1,5 +1,7 @@
 pub mod Writes
+pub mod Pages
 pub mod Leaders
+pub mod Turns
 pub mod Numbering
 pub mod ByLine
 pub mod Shares

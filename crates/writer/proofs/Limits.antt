@@ -2,10 +2,10 @@
 use Rattle.std.proofs.Common.{◌≡◌, ℕ, zero, suc, ◌+◌, ◌<◌, ◌≤◌, Bool, List, length, get_or, ℤ, Some, None, Option, sym, refl, ◌∙◌, subst, arith, lit≤}
 use Rattle.std.specs.List.{range_with_len, AllByRecursion}
 use Rattle.std.proofs.lemmas.List.FromFn.{length-range_with_len, get_or-range_with_len}
-use Rattle.std.proofs.ByRecursion.{All-from_get_or, All-map, all_kept_by}
+use Rattle.std.proofs.ByRecursion.{All-from_get_or, All-get_or, All-map, all_kept_by}
 use Rattle.std.proofs.lemmas.List.{length-map}
 use Rattle.mesh.specs.Mesh.{Mesh, Lawful, turn, ring}
-use Rattle.mesh.specs.Count.{leads, vertices}
+use Rattle.mesh.specs.Count.{leads, vertices, leaders}
 use Rattle.mesh.proofs.Rings.{ring_at, ring_pos, times_keeps}
 use Rattle.mesh.proofs.Leads.{count_le}
 use Rattle.point.specs.Checked.{no_fault}
@@ -19,9 +19,11 @@ use Rattle.point.specs.SolidPoints.{within}
 use Rattle.sheet.specs.Sheet.{PointIn, FaceIn, Ranged}
 use Rattle.point.specs.declared.solid.SolidRecord.{SolidRecord}
 use Rattle.writer.specs.Points.{record_of, origin, meant, point_at}
-use Rattle.writer.specs.Listing.{leaders, vertex_of, way, corners_from, sheet_of}
-use Rattle.writer.proofs.Leaders.{leaders_count, lead_at}
+use Rattle.writer.specs.Listing.{vertex_of, way, corners_from, sheet_of}
+use Rattle.mesh.proofs.Leaders.{leaders_count}
+use Rattle.writer.proofs.Leaders.{lead_at}
 use Rattle.writer.proofs.Numbering.{way_rounds}
+use Rattle.writer.proofs.Turns.{Came}
 
 pub point_in : (r : SolidRecord) → PointIn (meant r)
 point_in r = (within (meant_by r) 0, within (meant_by r) 1, within (meant_by r) 2)
@@ -53,6 +55,11 @@ leaders_all f n P a =
     let l : i < n = omega (arith, length-range_with_len 0 n) in
     let e : i ≡ get_or (range_with_len 0 n) i 0 = sym (get_or-range_with_len 0 n i 0 l ∙ (let z : 0 + i ≡ i = omega arith in z)) in
     subst P e (a i l)))
+
+-- a dart that comes in a loop over those that lead is one
+pub leader_below : (f : ℕ → ℕ) (n : ℕ) (xs : List ℕ) (h : ℕ) → Came (leaders f n) xs h → h < n
+leader_below f n xs h c =
+    subst (λ x. x < n) (sym c.here) (All-get_or (λ x. x < n) (leaders f n) (length xs) h c.inside (leaders_all f n (λ x. x < n) (λ x b. b)))
 
 module _ (m : Mesh) (l : Lawful m) where
   pub vertex_below : (h : ℕ) → h < m.n → vertex_of m h < vertices m

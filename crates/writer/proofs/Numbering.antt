@@ -1,60 +1,75 @@
 -- Walks round rings, and the vertex numbers of darts one after the other.
-use Rattle.std.proofs.Common.{◌≡◌, ℕ, ◌+◌, ◌<◌, ◌≤◌, Bool, true, false, List, [], ◌∷◌, ◌++◌, map, length, get_or, sym, refl, ap, ◌∙◌, subst, ⊎_elim, arith}
-use Rattle.std.specs.List.{range_with_len}
-use Rattle.std.proofs.lemmas.Bool.{cases_Bool, cases_eq}
+use Rattle.std.proofs.Common.{◌≡◌, ℕ, zero, suc, ◌+◌, ◌<◌, ◌≤◌, ltb, Some, None, Bool, true, false, List, [], ◌∷◌, ◌++◌, map, length, get_or, sym, refl, ap, ◌∙◌, ⊎_elim, arith}
+use Rattle.std.specs.List.{range_with_len, find}
+use Rattle.std.proofs.lemmas.Bool.{cases_Bool, cond-true, cond-false, ltb-true, ltb-false, lt-ltb}
 use Rattle.std.proofs.lemmas.List.FromFn.{get_or-map-range_with_len, map-range_with_len_more}
-use Rattle.mesh.specs.Mesh.{Mesh, Lawful, turn, times, ring}
+use Rattle.mesh.specs.Mesh.{Mesh, Lawful, turn, ring}
 use Rattle.mesh.specs.Count.{leads, rings}
-use Rattle.mesh.proofs.Rings.{On, on_steps, times_zero, ring_bound, inverse_long}
-use Rattle.mesh.proofs.Rounds.{Rounds, period, face_rounds}
+use Rattle.mesh.proofs.Rings.{On, on_steps, ring_at}
+use Rattle.mesh.proofs.Rounds.{Rounds, face_rounds, back_rounds, back_long}
 use Rattle.mesh.proofs.Leads.{decides_leads}
+use Rattle.skin.specs.Orbits.{ring_of}
 use Rattle.writer.specs.Listing.{vertex_of, way}
-use Rattle.writer.specs.Walk.{FirstUnder}
 use Rattle.writer.proofs.Leaders.{lead_same, leads_lead}
 
--- a face has as many darts followed backward
+-- a face has as many darts either way
 pub way_long : (m : Mesh) → Lawful m → (backward : Bool) (h : ℕ) → h < m.n → length (ring (way m backward) h) ≡ length (ring m.next h)
-way_long m l true h b = inverse_long m.n m.next m.prev l.next_below l.prev_below l.prev_next l.next_prev h b (l.faces_short h b)
+way_long m l true h b = back_long l h b
 way_long m l false h b = refl
 
 pub way_rounds : (m : Mesh) → Lawful m → (backward : Bool) → Rounds m.n (way m backward)
-way_rounds m l true = record { below = l.prev_below; short = λ h b. omega (arith, way_long m l true h b, l.faces_short h b) }
+way_rounds m l true = back_rounds l
 way_rounds m l false = face_rounds l
 
--- k steps from h, less than once round, is c, and the darts between are above h
-pub record Above (n : ℕ) (f : ℕ → ℕ) (h k c : ℕ) : Type 0 where
-  pub from : h < n
-  pub here : c < n
-  pub some : 1 ≤ k
-  pub round : k ≤ period f h
-  pub reached : c ≡ times k f h
-  pub above : (j : ℕ) → 0 < j → j < k → h < times j f h
+find_some : (p : ℕ → Bool) (xs : List ℕ) (d : ℕ) → find p xs ≡ Some d → (i : ℕ) × (i < length xs) × (get_or xs i 0 ≡ d) × (p d ≡ true)
+find_some p [] d e = absurd (let z : ◌≡◌ {A = ℕ} 0 1 = cc in omega arith)
+find_some p (x ∷ xs) d e =
+    ⊎_elim
+    (λ t.
+    let q : x ≡ d = let s : Some x ≡ Some d = sym (cond-true (p x) (Some x) (find p xs) t) ∙ e in cc in
+    (0, (let b : 0 < suc (length xs) = omega arith in b), q, ap p (sym q) ∙ t))
+    (λ t.
+    let r = find_some p xs d (sym (cond-false (p x) (Some x) (find p xs) t) ∙ e) in
+    let k : r.0 < length xs = r.1 in
+    (suc r.0, (let b : suc r.0 < suc (length xs) = omega arith in b), r.2, r.3))
+    (cases_Bool (p x))
 
-pub above_more : (f : ℕ → ℕ) (h k c : ℕ) → c ≡ times k f h → h < c → ((j : ℕ) → 0 < j → j < k → h < times j f h) →
-    (j : ℕ) → 0 < j → j < k + 1 → h < times j f h
-above_more f h k c e l a j p b =
-    ⊎_elim (λ (q : j ≡ k). omega (arith, ap (λ x. times x f h) q)) (λ q. a j p (omega arith)) (cases_eq j k)
+find_none : (p : ℕ → Bool) (xs : List ℕ) → find p xs ≡ None → (i : ℕ) → i < length xs → p (get_or xs i 0) ≡ false
+find_none p [] e i b = absurd (omega arith)
+find_none p (x ∷ xs) e i b =
+    ⊎_elim
+    (λ t. absurd (let s : Some x ≡ None = sym (cond-true (p x) (Some x) (find p xs) t) ∙ e in cc))
+    (λ t. at i b t (find_none p xs (sym (cond-false (p x) (Some x) (find p xs) t) ∙ e)))
+    (cases_Bool (p x))
+  where
+    at : (j : ℕ) → j < length (x ∷ xs) → p x ≡ false → ((k : ℕ) → k < length xs → p (get_or xs k 0) ≡ false) → p (get_or (x ∷ xs) j 0) ≡ false
+    at zero c t f = t
+    at (suc j) c t f = f j (omega arith)
 
-pub above_done : {n : ℕ} {f : ℕ → ℕ} (h k c : ℕ) → Above n f h k c → c ≤ h → FirstUnder f h c
-above_done h k c v l = record { steps = k; some = v.some; reached = sym v.reached; under = l; first = v.above }
+-- d is smaller than h and in its ring
+pub record Smaller (f : ℕ → ℕ) (h d : ℕ) : Type 0 where
+  pub under : d < h
+  pub on : On f h d
 
--- a walk that comes back to h first has h for its smallest dart
-pub under_leads : (f : ℕ → ℕ) (h d : ℕ) → length (ring f h) ≤ 64 → FirstUnder f h d → d ≡ h → leads f h ≡ true
-under_leads f h d s u e =
+-- a walk round the ring of h for a smaller dart
+pub found_smaller : (f : ℕ → ℕ) (h d : ℕ) → find (λ x. ltb x h) (ring f h) ≡ Some d → Smaller f h d
+found_smaller f h d e =
+    let q = find_some (λ x. ltb x h) (ring f h) d e in
+    record { under = ltb-true d h q.3; on = (q.0, q.1, sym (ring_at f h q.0 q.1) ∙ q.2) }
+
+-- that finds none, where h leads
+pub none_smaller : (f : ℕ → ℕ) (h : ℕ) → length (ring f h) ≤ 64 → find (λ x. ltb x h) (ring f h) ≡ None → leads f h ≡ true
+none_smaller f h s e =
     (decides_leads f h s).1
     (λ k.
     let o = on_steps f h s k in
-    let b : o.0 < length (ring f h) = o.1 in
-    let r : length (ring f h) ≤ u.steps = ring_bound f h u.steps u.some (u.reached ∙ e) in
-    ⊎_elim
-    (λ (z : o.0 ≡ 0). omega (arith, o.2, times_zero f h, ap (λ x. times x f h) z))
-    (λ z. omega (arith, o.2, u.first o.0 (omega arith) (omega arith)))
-    (cases_eq o.0 0))
+    let n : h ≤ get_or (ring f h) o.0 0 = ltb-false _ h (find_none (λ x. ltb x h) (ring f h) e o.0 o.1) in
+    omega (arith, o.2, ring_at f h o.0 o.1))
 
-pub under_follows : (f : ℕ → ℕ) (h d : ℕ) → length (ring f h) ≤ 64 → FirstUnder f h d → (d ≡ h → ⊥) → leads f h ≡ false
-under_follows f h d s u ne =
+pub smaller_follows : (f : ℕ → ℕ) (h d : ℕ) → length (ring f h) ≤ 64 → Smaller f h d → leads f h ≡ false
+smaller_follows f h d s u =
     ⊎_elim
-    (λ t. absurd (ne (omega (arith, (decides_leads f h s).0 t u.steps, u.reached, u.under))))
+    (λ t. absurd (omega (arith, (decides_leads f h s).0 t u.on.0, u.on.2, u.under)))
     (λ t. t)
     (cases_Bool (leads f h))
 
@@ -69,10 +84,11 @@ numbers_push m items items' h x e q v =
 
 -- what stands at a smaller dart of the ring is the number of h
 pub numbers_read : (m : Mesh) → Lawful m → (items : List ℕ) (h d x : ℕ) → h < m.n → items ≡ map (vertex_of m) (range_with_len 0 h) →
-    FirstUnder (turn m) h d → (d ≡ h → ⊥) → x ≡ get_or items d x → x ≡ vertex_of m h
-numbers_read m l items h d x b e u ne r =
-    let under : d < h = omega (arith, u.under) in
-    let s = l.vertices_short h b in
-    let on : On (turn m) h d = subst (On (turn m) h) u.reached (on_steps (turn m) h s u.steps) in
-    r ∙ ap (λ y. get_or y d x) e ∙ get_or-map-range_with_len (vertex_of m) 0 h d d x under (omega arith)
-    ∙ ap (rings (turn m)) (lead_same (turn m) h d s on)
+    Smaller (turn m) h d → x ≡ get_or items d x → x ≡ vertex_of m h
+numbers_read m l items h d x b e u r =
+    r ∙ ap (λ y. get_or y d x) e ∙ get_or-map-range_with_len (vertex_of m) 0 h d d x u.under (omega arith)
+    ∙ ap (rings (turn m)) (lead_same (turn m) h d (l.vertices_short h b) u.on)
+
+-- the whole ring of a dart
+pub ring_of_is : (n : ℕ) (f : ℕ → ℕ) (h : ℕ) → h < n → ring_of n f h ≡ ring f h
+ring_of_is n f h b = cond-true (ltb h n) (ring f h) [] (lt-ltb h n b)

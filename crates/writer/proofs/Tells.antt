@@ -2,15 +2,16 @@
 use Rattle.std.proofs.Common.{◌≡◌, ℕ, ◌<◌, Bool, true, List, [], sym, ap, ◌∙◌, subst, arith}
 use Rattle.std.proofs.lemmas.List.{length-map, get_or-map}
 use Rattle.mesh.specs.Mesh.{Mesh, Lawful, turn, times}
-use Rattle.mesh.specs.Count.{leads, rings}
+use Rattle.mesh.specs.Count.{leads, rings, leaders}
 use Rattle.mesh.proofs.Rings.{On, on_steps, on_sym, on_trans}
 use Rattle.mesh.proofs.Ranks.{rank_below, rank_same, rank_every}
 use Rattle.mesh.proofs.Rounds.{Rounds, face_rounds, vertex_rounds}
 use Rattle.point.specs.declared.solid.SolidRecord.{SolidRecord}
 use Rattle.writer.specs.Points.{origin, point_at}
-use Rattle.writer.specs.Listing.{leaders, lead, vertex_of, corners_from}
+use Rattle.writer.specs.Listing.{lead, vertex_of, corners_from}
 use Rattle.writer.specs.Told.{Told, Numbers, face_of}
-use Rattle.writer.proofs.Leaders.{leaders_count, lead_on, lead_lowest, lead_down, lead_same, lead_lead, lead_leads, lead_short, leads_lead, lead_at}
+use Rattle.mesh.proofs.Leaders.{leaders_count}
+use Rattle.writer.proofs.Leaders.{lead_on, lead_lowest, lead_down, lead_same, lead_lead, lead_leads, lead_short, leads_lead, lead_at}
 use Rattle.writer.proofs.Bounds.{each_all, faces_all, face_corners, text_bound}
 use Rattle.writer.proofs.Limits.{ranged}
 

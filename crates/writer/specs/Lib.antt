@@ -1,7 +1,7 @@
 pub mod Buffer
+pub mod Pages
 pub mod Points
 pub mod Listing
-pub mod Walk
 pub mod Told
 pub mod Drawn
 pub mod Refusals

@@ -1,15 +1,10 @@
 -- The sheet of a mesh and of the points of its darts.
-use Rattle.std.specs.Prelude.{ℕ, ◌+◌, ◌*◌, min, Bool, cond, List, [], ◌∷◌, map, filter}
-use Rattle.std.specs.List.{range_with_len}
+use Rattle.std.specs.Prelude.{ℕ, ◌+◌, ◌*◌, min, Bool, cond, List, [], ◌∷◌, map}
 use Rattle.mesh.specs.Mesh.{Mesh, turn, ring}
-use Rattle.mesh.specs.Count.{leads, rings, vertices, faces}
+use Rattle.mesh.specs.Count.{leaders, rings, vertices, faces}
 use Rattle.sheet.specs.Sheet.{Sheet}
 use Rattle.point.specs.declared.solid.SolidRecord.{SolidRecord}
 use Rattle.writer.specs.Points.{point_at}
-
--- the darts below n that are the smallest of their ring under f, in order
-unfoldable pub leaders : (ℕ → ℕ) → ℕ → List ℕ
-leaders f n = filter (leads f) (range_with_len 0 n)
 
 -- the least of a and the numbers of a list
 unfoldable pub least : ℕ → List ℕ → ℕ

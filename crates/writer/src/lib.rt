@@ -1,9 +1,10 @@
 // Writing sheets: a skin and the points of its darts as text.
 #![tactic(auto)]
 
-mod bytes;
 pub mod fault;
 mod lines;
+mod listing;
+mod page;
 pub mod piece;
 mod rings;
 pub mod write;

@@ -1,105 +1,101 @@
-// The lines of points and faces into a buffer.
-ghost use Rattle.std.specs.Prelude.{◌≡◌, ◌<◌, ◌≤◌, map, length};
-ghost use Rattle.std.specs.List.{range_with_len, flat_map};
+// The lines of a sheet onto a page.
+ghost use Rattle.std.specs.Prelude.{◌≡◌, ◌<◌, map};
+ghost use Rattle.std.specs.List.{flat_map};
 ghost use Rattle.mesh.specs.Mesh.{turn};
+ghost use Rattle.mesh.specs.Count.{leaders, vertices, faces};
 ghost use Rattle.skin.specs.Skins.{mesh};
-ghost use Rattle.sheet.specs.Sheet.{point_text, face_text};
+ghost use Rattle.skin.specs.Counts.{along};
+ghost use Rattle.skin.specs.Orbits.{to_come, ring_of};
+ghost use Rattle.sheet.specs.Sheet.{point_text, face_text, sheet_text};
 ghost use Rattle.writer.specs.Buffer.{Put, Room};
+ghost use Rattle.writer.specs.Pages.{HasRoom, Grows};
 ghost use Rattle.writer.specs.Points.{meant, point_at};
-ghost use Rattle.writer.specs.Listing.{leaders, vertex_of, corners_from};
+ghost use Rattle.writer.specs.Listing.{way, corners_from, sheet_of};
 
-use crate::bytes::{put_byte, put_number, put_signed};
-use crate::rings::{face_size, face_step};
+use crate::listing::Listing;
+use crate::page::Page;
 use point::kind::PointKind;
 use point::solid::SolidRecord;
 use point::solid::kind::Solid;
-use skin::count::{Ring, leads_ring};
+use skin::count::{Counts, Ring};
+use skin::leaders::leaders;
+use skin::orbit::{Darts, orbit};
 use skin::skin::Skin;
 
-// The coordinates of the point that a record means.
-fn meaning(p: &SolidRecord) -> SolidRecord
-    ensures { result ≡ meant p.now }
-{
-    let point = Solid::load(p);
-    let x = Solid::coordinate(&point, 0).unwrap();
-    let y = Solid::coordinate(&point, 1).unwrap();
-    let z = Solid::coordinate(&point, 2).unwrap();
-    SolidRecord { x, y, z }
-}
-
 // The line of the point that a record means.
-fn put_point(buf: &mut [u8], at: usize, p: SolidRecord) -> usize
-    requires { Room at (point_text (meant p)) buf.old }
-    ensures { Put at result (point_text (meant p)) buf.old buf.new }
+fn put_point(page: &mut Page, stored: &SolidRecord)
+    requires { HasRoom (point_text (meant stored.now)) page.old }
+    ensures { Grows (point_text (meant stored.now)) page.old page.new }
 {
-    let q = meaning(&p);
-    let x = put_signed(buf, at, q.x);
-    let xb = put_byte(buf, x, b' ');
-    let y = put_signed(buf, xb, q.y);
-    let yb = put_byte(buf, y, b' ');
-    let z = put_signed(buf, yb, q.z);
-    put_byte(buf, z, b'\n')
+    let point = Solid::load(stored);
+    page.signed(point.x());
+    page.byte(b' ');
+    page.signed(point.y());
+    page.byte(b' ');
+    page.signed(point.z());
+    page.byte(b'\n');
 }
 
-// The line of the face of h, from h on.
-fn put_face<S: Skin>(
-    skin: &S,
-    numbers: &[u32],
-    backward: bool,
-    h: u32,
-    buf: &mut [u8],
-    at: usize,
-) -> usize
-    requires dart { h < S.Skin.n skin.now }
-    requires numbered { numbers.now ≡ map (vertex_of (mesh S.Skin skin.now)) (range_with_len 0 (S.Skin.n skin.now)) }
-    requires room { Room at (face_text (corners_from (mesh S.Skin skin.now) backward h)) buf.old }
-    ensures { Put at result (face_text (corners_from (mesh S.Skin skin.now) backward h)) buf.old buf.new }
-{
-    let size = face_size(skin, backward, h);
-    let mut p = put_number(buf, at, size);
-    let mut d = h;
-    for k in 0..size {
-        let b = put_byte(buf, p, b' ');
-        p = put_number(buf, b, numbers[d as usize]);
-        d = face_step(skin, backward, d);
+impl<'a, S: Skin> Listing<'a, S> {
+    // The darts of the face of h from h on, each once; none for a dart of n or more.
+    fn corners(&self, h: u32) -> Darts<'a, S>
+        ensures { to_come (S.Skin.n result.skin.now) (along result.ring (mesh S.Skin result.skin.now)) result.first result.last ≡ ring_of (S.Skin.n self.now.skin.now) (way (mesh S.Skin self.now.skin.now) self.now.backward) h }
+    {
+        let ring = if self.backward {
+            Ring::Back
+        } else {
+            Ring::Face
+        };
+        orbit(self.skin, ring, h)
     }
-    put_byte(buf, p, b'\n')
-}
 
-// The lines of all points, one a vertex.
-pub fn put_points<S: Skin>(skin: &S, points: &[SolidRecord], buf: &mut [u8], at: usize) -> usize
-    requires long { S.Skin.n skin.now ≤ length points.now }
-    requires room { Room at (flat_map point_text (map (point_at points.now) (leaders (turn (mesh S.Skin skin.now)) (S.Skin.n skin.now)))) buf.old }
-    ensures { Put at result (flat_map point_text (map (point_at points.now) (leaders (turn (mesh S.Skin skin.now)) (S.Skin.n skin.now)))) buf.old buf.new }
-{
-    let n = skin.n();
-    let mut p = at;
-    for h in 0..n {
-        if leads_ring(skin, Ring::Vertex, h) {
-            p = put_point(buf, p, points[h as usize]);
+    // The line of the face of h, from h on.
+    fn put_face(&self, page: &mut Page, h: u32)
+        requires dart { h < S.Skin.n self.now.skin.now }
+        requires room { HasRoom (face_text (corners_from (mesh S.Skin self.now.skin.now) self.now.backward h)) page.old }
+        ensures { Grows (face_text (corners_from (mesh S.Skin self.now.skin.now) self.now.backward h)) page.old page.new }
+    {
+        page.number(self.corners(h).count());
+        for d in self.corners(h) {
+            page.byte(b' ');
+            page.number(self.numbers[d as usize] as usize);
+        }
+        page.byte(b'\n');
+    }
+
+    // The lines of all points, one a vertex.
+    fn put_points(&self, page: &mut Page)
+        requires { HasRoom (flat_map point_text (map (point_at self.now.points.now) (leaders (turn (mesh S.Skin self.now.skin.now)) (S.Skin.n self.now.skin.now)))) page.old }
+        ensures { Grows (flat_map point_text (map (point_at self.now.points.now) (leaders (turn (mesh S.Skin self.now.skin.now)) (S.Skin.n self.now.skin.now)))) page.old page.new }
+    {
+        for h in leaders(self.skin, Ring::Vertex) {
+            put_point(page, &self.points[h as usize]);
         }
     }
-    p
-}
 
-// The lines of all faces.
-pub fn put_faces<S: Skin>(
-    skin: &S,
-    numbers: &[u32],
-    backward: bool,
-    buf: &mut [u8],
-    at: usize,
-) -> usize
-    requires numbered { numbers.now ≡ map (vertex_of (mesh S.Skin skin.now)) (range_with_len 0 (S.Skin.n skin.now)) }
-    requires room { Room at (flat_map face_text (map (corners_from (mesh S.Skin skin.now) backward) (leaders (S.Skin.next skin.now) (S.Skin.n skin.now)))) buf.old }
-    ensures { Put at result (flat_map face_text (map (corners_from (mesh S.Skin skin.now) backward) (leaders (S.Skin.next skin.now) (S.Skin.n skin.now)))) buf.old buf.new }
-{
-    let n = skin.n();
-    let mut p = at;
-    for h in 0..n {
-        if leads_ring(skin, Ring::Face, h) {
-            p = put_face(skin, numbers, backward, h, buf, p);
+    // The lines of all faces.
+    fn put_faces(&self, page: &mut Page)
+        requires { HasRoom (flat_map face_text (map (corners_from (mesh S.Skin self.now.skin.now) self.now.backward) (leaders (S.Skin.next self.now.skin.now) (S.Skin.n self.now.skin.now)))) page.old }
+        ensures { Grows (flat_map face_text (map (corners_from (mesh S.Skin self.now.skin.now) self.now.backward) (leaders (S.Skin.next self.now.skin.now) (S.Skin.n self.now.skin.now)))) page.old page.new }
+    {
+        for h in leaders(self.skin, Ring::Face) {
+            self.put_face(page, h);
         }
     }
-    p
+
+    // The whole text into a buffer that has room for it, and its length; the skin's vertices and faces were counted.
+    pub fn put_sheet(&self, counts: Counts, buf: &mut [u8]) -> usize
+        requires v_counted { counts.vertices ≡ vertices (mesh S.Skin self.now.skin.now) }
+        requires f_counted { counts.faces ≡ faces (mesh S.Skin self.now.skin.now) }
+        requires room { Room 0 (sheet_text (sheet_of (mesh S.Skin self.now.skin.now) self.now.points.now self.now.backward)) buf.old }
+        ensures { Put 0 result (sheet_text (sheet_of (mesh S.Skin self.now.skin.now) self.now.points.now self.now.backward)) buf.old buf.new }
+    {
+        let mut page = Page::new(buf);
+        page.heading(b"points ", counts.vertices);
+        self.put_points(&mut page);
+        page.heading(b"faces ", counts.faces);
+        self.put_faces(&mut page);
+        page.word(b"end\n");
+        page.at
+    }
 }

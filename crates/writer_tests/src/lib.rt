@@ -79,8 +79,7 @@ mod tests {
 
     #[test]
     fn triangles(rt: HostRuntime) -> Result<(), Fail> {
-        let mut skin = TableSkin::empty();
-        skin.adopt(6, &NEXT, &PREV, &TWIN)?;
+        let skin = TableSkin::new(6, &NEXT, &PREV, &TWIN)?;
         let points = [A, B, C, A, C, B];
         let text = b"points 3\n0 0 0\n12 0 0\n0 12 0\nfaces 2\n3 0 1 2\n3 0 2 1\nend\n";
         writes(&rt, rt.alloc(), &skin, &points, false, text)?;
@@ -90,8 +89,7 @@ mod tests {
 
     #[test]
     fn out_of_range(rt: HostRuntime) -> Result<(), Fail> {
-        let mut skin = TableSkin::empty();
-        skin.adopt(6, &NEXT, &PREV, &TWIN)?;
+        let skin = TableSkin::new(6, &NEXT, &PREV, &TWIN)?;
         let far = SolidRecord {
             x: -16_777_216,
             y: 0,
@@ -111,8 +109,7 @@ mod tests {
     // 33 + 30·3 + 3·2 + 8·6 bytes are needed.
     #[test]
     fn too_short(rt: HostRuntime) -> Result<(), Fail> {
-        let mut skin = TableSkin::empty();
-        skin.adopt(6, &NEXT, &PREV, &TWIN)?;
+        let skin = TableSkin::new(6, &NEXT, &PREV, &TWIN)?;
         let points = [A, B, C, A, C, B];
         let mut small = [b'#'; 176];
         let case = "points before the buffer";
@@ -127,8 +124,7 @@ mod tests {
 
     #[test]
     fn refined(rt: HostRuntime) -> Result<(), Fail> {
-        let mut skin = TableSkin::empty();
-        skin.adopt(6, &NEXT, &PREV, &TWIN)?;
+        let skin = TableSkin::new(6, &NEXT, &PREV, &TWIN)?;
         let points = [
             A, AB, M, CA, B, BC, M, AB, C, CA, M, BC, A, CA, M, AB, C, BC, M, CA, B, AB, M, BC,
         ];

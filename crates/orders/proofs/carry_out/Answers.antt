@@ -1,8 +1,7 @@
 -- `carry_out` meets its contract: what was read is the dart's point, and a dart that was read can be placed.
-use Rattle.std.proofs.Common.{◌≡◌, ℕ, ◌<◌, Bool, true, false, cond, ◌&&◌, ltb, leb, List, [], map, length, get_or, pos, Ok, Err, refl, ◌∙◌, subst, arith, ltb-true, leb-true}
+use Rattle.std.proofs.Common.{◌≡◌, ℕ, ◌<◌, List, [], map, length, get_or, pos, Ok, Err, refl, ◌∙◌, subst, arith}
 use Rattle.std.proofs.lemmas.List.{get_or-map}
 use Rattle.std.proofs.lemmas.Result.{err_from_is_err_and}
-use Rattle.std.proofs.lemmas.Bool.{and_parts}
 use Rattle.point.specs.Kinds.{place}
 use Rattle.point.specs.Solids.{numbers_of}
 use Rattle.point.specs.declared.solid.SolidPoint.{SolidPoint}
@@ -11,26 +10,10 @@ use Rattle.point.specs.contracts.solid.kind.SolidPointKind.TheImpl.{ghosts}
 use Rattle.point.specs.SolidPoints.{solid_same}
 use Rattle.order.specs.Rule.{TheOne}
 use Rattle.order.specs.Orders.{Ordered}
-use Rattle.workpiece.specs.Answers.{reach_answer}
 use Rattle.workpiece.specs.Law.{work}
-use Rattle.workpiece.specs.Reckoning.{may_reach}
-use Rattle.workpiece.specs.declared.fault.WorkFault.TheVariants.{Short, NoDart}
+use Rattle.workpiece.proofs.Keeping.{reached, within_reach}
 use Rattle.orders.specs.Orders.{point_of}
 use Rattle.orders.proofs.carry_out.Goals as goal
-
--- what was reached
-reached : {X : Type 0} (x y : X) (n dart len : ℕ) → Ok y ≡ reach_answer x n dart len → (y ≡ x) × (may_reach dart n len ≡ true)
-reached {X} x y n dart len e = go (leb n len) (ltb dart n) e
-  where
-    go : (a b : Bool) → Ok y ≡ cond a (cond b (Ok x) (Err (NoDart dart))) (Err (Short n)) → (y ≡ x) × ((a && b) ≡ true)
-    go true true h = (cc, refl)
-    go true false h = let z : ◌≡◌ {A = ℕ} 0 1 = cc in absurd (omega arith)
-    go false b h = let z : ◌≡◌ {A = ℕ} 0 1 = cc in absurd (omega arith)
-
-below : (n dart len : ℕ) → may_reach dart n len ≡ true → dart < len
-below n dart len h =
-    let p = and_parts (leb n len) (ltb dart n) h in
-    omega (arith, leb-true n len p.0, ltb-true dart n p.1)
 
 -- the point that was read is that of the dart
 read_point : (t : List SolidRecord) (dart : ℕ) (old : SolidPoint) → dart < length t → numbers_of old ≡ get_or (map (place ghosts) t) dart [] → old ≡ point_of t dart
@@ -46,7 +29,7 @@ returns-in_err-point g c =
     let old = c.in_ok-old.old in
     let n = (work g.S.Skin c.args.piece.now).carrier.n in
     let k = reached (get_or (map (place ghosts) t) dart []) (numbers_of old) n dart (length t) c.in_ok-old.ensures.answer in
-    let same : old ≡ point_of t dart = read_point t dart old (below n dart (length t) k.1) k.0 in
+    let same : old ≡ point_of t dart = read_point t dart old (omega (arith, within_reach n dart (length t) k.1)) k.0 in
     rw (p.1, p.2) (k.1, subst (λ (q : SolidPoint). TheOne (Ordered c.args.order q) (Err c.in_err-point.field-0.0)) same c.in_err-point.ensures, refl, refl)
 
 pub returns : goal.returns
@@ -56,7 +39,7 @@ returns g c =
     let old = c.in_ok-old.old in
     let n = (work g.S.Skin c.args.piece.now).carrier.n in
     let k = reached (get_or (map (place ghosts) t) dart []) (numbers_of old) n dart (length t) c.in_ok-old.ensures.answer in
-    let same : old ≡ point_of t dart = read_point t dart old (below n dart (length t) k.1) k.0 in (
+    let same : old ≡ point_of t dart = read_point t dart old (omega (arith, within_reach n dart (length t) k.1)) k.0 in (
       c.in_ok-point.point,
       subst (λ (q : SolidPoint). TheOne (Ordered c.args.order q) (Ok c.in_ok-point.point)) same c.in_ok-point.ensures,
       c.in_ok-place.ensures,

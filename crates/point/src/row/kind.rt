@@ -1,24 +1,24 @@
 // The pull row kind: rows whose mean keeps their total.
-ghost use Rattle.std.specs.Prelude.{◌≡◌, ℕ, ◌<◌, ◌≤◌, List, map, length, ℤ, Some};
-ghost use Rattle.point.specs.Range.{full_count, InRange, Summed};
-ghost use Rattle.point.specs.Points.{coordinate, total as total_of, one_more, mean_answer};
+ghost use Rattle.std.specs.Prelude.{◌≡◌, List, length, ℤ, Some};
+ghost use Rattle.point.specs.Points.{total as total_of, mean_answer};
 ghost use Rattle.point.specs.Made.{row_fault, Makes};
-ghost use Rattle.point.specs.Dealing.{handle_count, floor_of, gets, dealt, Shares};
-ghost use Rattle.point.specs.Rows.{count_of, numbers_of, sums_of, meant_by, mean_by};
+ghost use Rattle.point.specs.Dealing.{handle_count, Shares};
+ghost use Rattle.point.specs.Rows.{first, count_of, numbers_of, sums_of, meant_by, mean_by};
 ghost use Rattle.point.specs.RowPoints.{row_laws};
 
 use crate::fault::PointFault;
 use crate::kind::PointKind;
-use crate::range::{FULL, range_fault};
+use crate::range::check_range;
 use crate::row::{HANDLES, PullRecord, PullRow, PullSum, ROW_TOTAL};
+use crate::tally::{Full, Tally};
 
 // The total of some weights.
 fn row_total(weights: &[i32; HANDLES]) -> i64
     ensures { result ≡ total_of weights.now }
 {
     let mut total = 0;
-    for i in 0..HANDLES {
-        total += weights[i] as i64;
+    for weight in weights {
+        total += i64::from(*weight);
     }
     total
 }
@@ -27,78 +27,22 @@ impl PullRow {
     pub fn new(weights: [i32; HANDLES]) -> Result<PullRow, PointFault>
         ensures { Makes numbers_of (row_fault weights) weights result }
     {
-        if let Some(fault) = range_fault(&weights) {
-            return Err(fault);
-        }
+        check_range(&weights)?;
         let total = row_total(&weights);
-        if total != ROW_TOTAL as i64 {
+        if total != i64::from(ROW_TOTAL) {
             return Err(PointFault::RowTotal(total));
         }
         Ok(PullRow { weights })
     }
-}
 
-// The totals with the weights of one row more.
-fn added(totals: &[i64; HANDLES], weights: &[i32; HANDLES], count: u32) -> [i64; HANDLES]
-    requires { (count < full_count) × ((((i : ℕ) → Summed count (coordinate totals.now i))) × (((i : ℕ) → InRange (coordinate weights.now i)))) }
-    ensures { result ≡ one_more handle_count totals.now weights.now }
-{
-    let mut sums = *totals;
-    for i in 0..HANDLES {
-        sums[i] += weights[i] as i64;
+    // All weight on the first handle.
+    fn first() -> PullRow
+        ensures { result ≡ first }
+    {
+        let mut weights = [0; HANDLES];
+        weights[0] = ROW_TOTAL;
+        PullRow { weights }
     }
-    sums
-}
-
-// The floor of one weight's mean.
-fn floor_mean(total: i64, count: u32) -> i32
-    requires { (0 < count) × ((count ≤ full_count) × (Summed count total)) }
-    ensures value { result ≡ floor_of count total }
-    ensures range { InRange result }
-{
-    total.div_euclid(count as i64) as i32
-}
-
-// The floor of each weight's mean.
-fn floor_means(totals: &[i64; HANDLES], count: u32) -> [i32; HANDLES]
-    requires { (0 < count) × ((count ≤ full_count) × (((i : ℕ) → Summed count (coordinate totals.now i)))) }
-    ensures { result ≡ map (floor_of count) totals.now }
-{
-    let mut floors = [0; HANDLES];
-    for i in 0..HANDLES {
-        floors[i] = floor_mean(totals[i], count);
-    }
-    floors
-}
-
-// What a weight gets of the units left: one if its division leaves a remainder.
-fn extra(total: i64, count: u32, left: u32) -> u32
-    requires { (0 < count) × ((count ≤ full_count) × (Summed count total)) }
-    ensures value { result ≡ gets count left total }
-    ensures few { (result ≤ 1) × (result ≤ left) }
-{
-    let remainder = total.rem_euclid(count as i64);
-    if remainder > 0 { left.min(1) } else { 0 }
-}
-
-// The weights of the mean: the missing units go one each to the first weights whose division left a remainder.
-fn deal(
-    totals: &[i64; HANDLES],
-    count: u32,
-    floors: &[i32; HANDLES],
-    missing: u32,
-) -> [i32; HANDLES]
-    requires { (0 < count) × ((count ≤ full_count) × ((((i : ℕ) → Summed count (coordinate totals.now i))) × (floors.now ≡ map (floor_of count) totals.now))) }
-    ensures { result ≡ dealt count missing totals.now }
-{
-    let mut weights = *floors;
-    let mut left = missing;
-    for i in 0..HANDLES {
-        let unit = extra(totals[i], count, left);
-        weights[i] += unit as i32;
-        left -= unit;
-    }
-    weights
 }
 
 impl PullSum {
@@ -108,12 +52,15 @@ impl PullSum {
         ensures shares { (p : PullRow) → result ≡ Some p → Shares (count_of self.now) (sums_of self.now) (numbers_of p) }
         ensures only { (p : PullRow) (ws : List ℤ) → result ≡ Some p → length ws ≡ handle_count → Shares (count_of self.now) (sums_of self.now) ws → ws ≡ numbers_of p }
     {
-        if self.count == 0 {
-            return None;
+        let columns = self.tally.columns()?;
+        let mut weights = columns.map(|column| column.floor());
+        // the units that are missing go one each to the first weights whose division left a remainder
+        let mut left = (i64::from(ROW_TOTAL) - row_total(&weights)) as u32;
+        for (i, weight) in weights.iter_mut().enumerate() {
+            let unit = columns[i].extra(left);
+            *weight += unit as i32;
+            left -= unit;
         }
-        let floors = floor_means(&self.totals, self.count);
-        let missing = ROW_TOTAL as i64 - row_total(&floors);
-        let weights = deal(&self.totals, self.count, &floors, missing as u32);
         Some(PullRow { weights })
     }
 }
@@ -143,21 +90,14 @@ impl PointKind for Pull {
 
     ghost lawful = { row_laws };
 
-    ghost counted = { λ s. s.few };
+    ghost counted = { λ s. s.tally.few };
 
     fn coordinates() -> usize {
         HANDLES
     }
 
     fn load(stored: &PullRecord) -> PullRow {
-        match PullRow::new(stored.weights) {
-            Ok(row) => row,
-            Err(_) => {
-                let mut weights = [0; HANDLES];
-                weights[0] = ROW_TOTAL;
-                PullRow { weights }
-            }
-        }
+        PullRow::new(stored.weights).unwrap_or_else(|_| PullRow::first())
     }
 
     fn store(point: &PullRow) -> PullRecord {
@@ -171,26 +111,17 @@ impl PointKind for Pull {
     }
 
     fn alike(a: &PullRow, b: &PullRow) -> bool {
-        a.weights == b.weights
+        a == b
     }
 
     fn start() -> PullSum {
         PullSum {
-            count: 0,
-            totals: [0; HANDLES],
+            tally: Tally::empty(),
         }
     }
 
-    fn add(sum: &mut PullSum, point: &PullRow) -> bool {
-        if sum.count >= FULL {
-            return false;
-        }
-        let totals = added(&sum.totals, &point.weights, sum.count);
-        *sum = PullSum {
-            count: sum.count + 1,
-            totals,
-        };
-        true
+    fn add(sum: &mut PullSum, point: &PullRow) -> Result<(), Full> {
+        sum.tally.add(&point.weights)
     }
 
     fn mean(sum: &PullSum) -> Option<PullRow> {

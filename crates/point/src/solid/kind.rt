@@ -1,24 +1,22 @@
 // The solid kind: points of three coordinates, each averaged to the nearest whole number, halves up.
-ghost use Rattle.std.specs.Prelude.{◌≡◌, ◌<◌, ◌≤◌, Some};
-ghost use Rattle.point.specs.Range.{full_count, InRange, Summed};
+ghost use Rattle.std.specs.Prelude.{◌≡◌, Some};
 ghost use Rattle.point.specs.Points.{mean_answer};
 ghost use Rattle.point.specs.Made.{range_fault, Makes};
-ghost use Rattle.point.specs.Solids.{three, count_of, numbers_of, sums_of, meant_by, mean_by, half_up, NearestEach};
+ghost use Rattle.point.specs.Solids.{three, count_of, numbers_of, sums_of, meant_by, mean_by, NearestEach};
 ghost use Rattle.point.specs.SolidPoints.{solid_laws};
 
 use crate::fault::PointFault;
 use crate::kind::PointKind;
-use crate::range::{FULL, range_fault};
+use crate::range::check_range;
 use crate::solid::{SolidPoint, SolidRecord, SolidSum};
+use crate::tally::{Full, Tally};
 
 impl SolidPoint {
     pub fn new(x: i32, y: i32, z: i32) -> Result<SolidPoint, PointFault>
         ensures { Makes numbers_of (range_fault 0 (three x y z)) (three x y z) result }
     {
-        match range_fault(&[x, y, z]) {
-            Some(fault) => Err(fault),
-            None => Ok(SolidPoint { x, y, z }),
-        }
+        check_range(&[x, y, z])?;
+        Ok(SolidPoint { x, y, z })
     }
 
     pub fn x(&self) -> i32
@@ -40,28 +38,14 @@ impl SolidPoint {
     }
 }
 
-// The mean of one coordinate: to the nearest whole number, halves up.
-fn nearest(total: i64, count: u32) -> i32
-    requires { (0 < count) × ((count ≤ full_count) × (Summed count total)) }
-    ensures value { result ≡ half_up count total }
-    ensures range { InRange result }
-{
-    let k = count as i64;
-    (2 * total + k).div_euclid(2 * k) as i32
-}
-
 impl SolidSum {
     // The mean of the points added, none where there are none.
     pub fn mean(&self) -> Option<SolidPoint>
         ensures value { result ≡ mean_answer mean_by (count_of self.now) (sums_of self.now) }
         ensures nearest { (p : SolidPoint) → result ≡ Some p → NearestEach (count_of self.now) (sums_of self.now) p }
     {
-        if self.count == 0 {
-            return None;
-        }
-        let x = nearest(self.x, self.count);
-        let y = nearest(self.y, self.count);
-        let z = nearest(self.z, self.count);
+        let columns = self.tally.columns()?;
+        let [x, y, z] = columns.map(|column| column.nearest());
         Some(SolidPoint { x, y, z })
     }
 }
@@ -91,17 +75,14 @@ impl PointKind for Solid {
 
     ghost lawful = { solid_laws };
 
-    ghost counted = { λ s. s.few };
+    ghost counted = { λ s. s.tally.few };
 
     fn coordinates() -> usize {
         3
     }
 
     fn load(stored: &SolidRecord) -> SolidPoint {
-        match SolidPoint::new(stored.x, stored.y, stored.z) {
-            Ok(point) => point,
-            Err(_) => SolidPoint { x: 0, y: 0, z: 0 },
-        }
+        SolidPoint::new(stored.x, stored.y, stored.z).unwrap_or(SolidPoint { x: 0, y: 0, z: 0 })
     }
 
     fn store(point: &SolidPoint) -> SolidRecord {
@@ -122,27 +103,17 @@ impl PointKind for Solid {
     }
 
     fn alike(a: &SolidPoint, b: &SolidPoint) -> bool {
-        (a.x == b.x) & (a.y == b.y) & (a.z == b.z)
+        a == b
     }
 
     fn start() -> SolidSum {
         SolidSum {
-            count: 0,
-            x: 0,
-            y: 0,
-            z: 0,
+            tally: Tally::empty(),
         }
     }
 
-    fn add(sum: &mut SolidSum, point: &SolidPoint) -> bool {
-        if sum.count >= FULL {
-            return false;
-        }
-        sum.count += 1;
-        sum.x += point.x as i64;
-        sum.y += point.y as i64;
-        sum.z += point.z as i64;
-        true
+    fn add(sum: &mut SolidSum, point: &SolidPoint) -> Result<(), Full> {
+        sum.tally.add(&[point.x, point.y, point.z])
     }
 
     fn mean(sum: &SolidSum) -> Option<SolidPoint> {

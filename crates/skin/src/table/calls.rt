@@ -1,5 +1,5 @@
-// The calls of a table skin: the empty one, putting tables in its place, and the interface.
-ghost use Rattle.std.specs.Prelude.{◌≡◌, true, false, is_ok};
+// The calls of a table skin: the empty one, one of three tables, putting it in the place of another, and the interface.
+ghost use Rattle.std.specs.Prelude.{◌≡◌, true, false, is_ok, MatchResult, Ok, Err};
 ghost use Rattle.mesh.specs.Tables.{tables};
 ghost use Rattle.skin.specs.Verdict.{verdict};
 ghost use Rattle.mesh.specs.Mesh.{shown};
@@ -7,7 +7,7 @@ ghost use Rattle.skin.specs.Fit.{Fit};
 ghost use Rattle.skin.specs.Meaning.{meaning, nothing};
 
 use super::TableSkin;
-use super::scan::first_fault;
+use super::columns::Columns;
 use crate::fault::Fault;
 use crate::skin::Skin;
 use mesh::DARTS;
@@ -18,14 +18,36 @@ impl<'a> TableSkin<'a> {
         ensures { meaning result ≡ nothing }
     {
         TableSkin {
-            n: 0,
-            next: &[],
-            prev: &[],
-            twin: &[],
+            columns: Columns {
+                n: 0,
+                next: &[],
+                prev: &[],
+                twin: &[],
+            },
         }
     }
 
-    // Puts n and the tables in the place of the skin that is held, or refuses and leaves that as it was.
+    // The skin of the first n places of three tables. It looks for more darts than a skin may have, then for places, then for darts at fault.
+    pub fn new(
+        n: u32,
+        next: &'a [u32],
+        prev: &'a [u32],
+        twin: &'a [u32],
+    ) -> Result<TableSkin<'a>, Fault>
+        ensures answer { MatchResult result (λ s. (verdict n next.now prev.now twin.now ≡ Ok tt) × (meaning s ≡ tables n next.now prev.now twin.now)) (λ f. verdict n next.now prev.now twin.now ≡ Err f) }
+        ensures exact { (is_ok result ≡ true → Fit n next.now prev.now twin.now) × (Fit n next.now prev.now twin.now → is_ok result ≡ true) }
+    {
+        if n > DARTS {
+            return Err(Fault::TooMany);
+        }
+        let columns = Columns::new(n, next, prev, twin).ok_or(Fault::Short(n))?;
+        match columns.first_fault() {
+            Some(h) => Err(Fault::Broken(h)),
+            None => Ok(TableSkin { columns }),
+        }
+    }
+
+    // Puts the skin of n and the tables in the place of the one that is held, or refuses and leaves that as it was.
     pub fn adopt(
         &mut self,
         n: u32,
@@ -38,21 +60,7 @@ impl<'a> TableSkin<'a> {
         ensures taken { is_ok result ≡ true → meaning self.new ≡ tables n next.now prev.now twin.now }
         ensures declined { is_ok result ≡ false → self.new ≡ self.old }
     {
-        if n > DARTS {
-            return Err(Fault::TooMany);
-        }
-        if next.len() < n as usize || prev.len() < n as usize || twin.len() < n as usize {
-            return Err(Fault::Short(n));
-        }
-        if let Some(h) = first_fault(n, next, prev, twin) {
-            return Err(Fault::Broken(h));
-        }
-        *self = TableSkin {
-            n,
-            next,
-            prev,
-            twin,
-        };
+        *self = TableSkin::new(n, next, prev, twin)?;
         Ok(())
     }
 }
@@ -69,30 +77,18 @@ impl<'a> Skin for TableSkin<'a> {
     ghost lawful = { λ t. shown t.lawful };
 
     fn n(&self) -> u32 {
-        self.n
+        self.columns.n
     }
 
     fn next(&self, h: u32) -> Option<u32> {
-        if h < self.n {
-            Some(self.next[h as usize])
-        } else {
-            None
-        }
+        self.columns.next(h)
     }
 
     fn prev(&self, h: u32) -> Option<u32> {
-        if h < self.n {
-            Some(self.prev[h as usize])
-        } else {
-            None
-        }
+        self.columns.prev(h)
     }
 
     fn twin(&self, h: u32) -> Option<u32> {
-        if h < self.n {
-            Some(self.twin[h as usize])
-        } else {
-            None
-        }
+        self.columns.twin(h)
     }
 }

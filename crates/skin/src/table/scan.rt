@@ -1,127 +1,128 @@
 // The search of three tables for the smallest dart at fault.
-ghost use Rattle.std.specs.Prelude.{◌≡◌, ℕ, ◌<◌, ◌≤◌, length, None, slice_index};
-ghost use Rattle.mesh.specs.Tables.{tables, outside, torn, overlong, long_ring, fault_of};
+ghost use Rattle.std.specs.Prelude.{◌≡◌, ℕ, ◌<◌, slice_index};
+ghost use Rattle.mesh.specs.Tables.{outside, torn, overlong, long_ring, fault_of};
 ghost use Rattle.mesh.specs.Smallest.{smallest};
+ghost use Rattle.skin.specs.Counts.{along};
+ghost use Rattle.skin.specs.Drawn.{drawn};
+
+use super::columns::Columns;
+use crate::count::Ring;
 
 // The darts that a ring may have at most.
 const RING: u32 = 64;
 
-// The smallest dart at fault: by its entries, or else by the undoings, or else by its rings.
-pub fn first_fault(n: u32, next: &[u32], prev: &[u32], twin: &[u32]) -> Option<u32>
-    requires long { (n ≤ length next.now) × (n ≤ length prev.now) × (n ≤ length twin.now) }
-    ensures { result ≡ fault_of (tables n next.now prev.now twin.now) }
-{
-    if let Some(h) = first_outside(n, next, prev, twin) {
-        return Some(h);
-    }
-    if let Some(h) = first_torn(n, next, prev, twin) {
-        return Some(h);
-    }
-    first_overlong(n, next, prev, twin)
-}
-
-// The smallest dart with an entry of n or more.
-fn first_outside(n: u32, next: &[u32], prev: &[u32], twin: &[u32]) -> Option<u32>
-    requires long { (n ≤ length next.now) × (n ≤ length prev.now) × (n ≤ length twin.now) }
-    ensures { result ≡ smallest n (outside (tables n next.now prev.now twin.now)) }
-{
-    for h in 0..n {
-        if is_outside(n, next, prev, twin, h) {
+impl<'a> Columns<'a> {
+    // The smallest dart at fault: by its entries, or else by the undoings, or else by its rings.
+    pub fn first_fault(&self) -> Option<u32>
+        ensures { result ≡ fault_of (drawn self.now) }
+    {
+        if let Some(h) = self.first_outside() {
             return Some(h);
         }
-    }
-    None
-}
-
-// Whether an entry of h is n or more.
-fn is_outside(n: u32, next: &[u32], prev: &[u32], twin: &[u32], h: u32) -> bool
-    requires long { (n ≤ length next.now) × (n ≤ length prev.now) × (n ≤ length twin.now) }
-    requires below { h < n }
-    ensures { result ≡ outside (tables n next.now prev.now twin.now) h }
-{
-    let i = h as usize;
-    next[i] >= n || prev[i] >= n || twin[i] >= n
-}
-
-// The smallest dart where an undoing fails, or that is its own twin.
-fn first_torn(n: u32, next: &[u32], prev: &[u32], twin: &[u32]) -> Option<u32>
-    requires long { (n ≤ length next.now) × (n ≤ length prev.now) × (n ≤ length twin.now) }
-    requires inside { smallest n (outside (tables n next.now prev.now twin.now)) ≡ None }
-    ensures { result ≡ smallest n (torn (tables n next.now prev.now twin.now)) }
-{
-    for h in 0..n {
-        if is_torn(n, next, prev, twin, h) {
+        let inner = Inner { columns: *self };
+        // (no `or_else`: its closure would need a clause that says what it answers)
+        if let Some(h) = inner.first_torn() {
             return Some(h);
         }
+        inner.first_overlong()
     }
-    None
+
+    // The smallest dart with an entry of n or more.
+    fn first_outside(&self) -> Option<u32>
+        ensures { result ≡ smallest self.now.n (outside (drawn self.now)) }
+    {
+        (0..self.n).find(|h| self.is_outside(*h))
+    }
+
+    // Whether an entry of h is n or more.
+    fn is_outside(&self, h: u32) -> bool
+        requires { h < self.now.n }
+        ensures { result ≡ outside (drawn self.now) h }
+    {
+        let i = h as usize;
+        self.next[i] >= self.n || self.prev[i] >= self.n || self.twin[i] >= self.n
+    }
 }
 
-// Whether an undoing fails at h, or h is its own twin.
-fn is_torn(n: u32, next: &[u32], prev: &[u32], twin: &[u32], h: u32) -> bool
-    requires long { (n ≤ length next.now) × (n ≤ length prev.now) × (n ≤ length twin.now) }
-    requires inside { smallest n (outside (tables n next.now prev.now twin.now)) ≡ None }
-    requires below { h < n }
-    ensures { result ≡ torn (tables n next.now prev.now twin.now) h }
-{
-    let a = next[h as usize];
-    let b = prev[h as usize];
-    let t = twin[h as usize];
-    prev[a as usize] != h || next[b as usize] != h || twin[t as usize] != h || t == h
+// Three tables of which each entry is a dart.
+#[derive(Clone, Copy)]
+struct Inner<'a> {
+    columns: Columns<'a>,
+    ghost inside: { (h : ℕ) → h < columns.n → (slice_index columns.next.now h < columns.n) × (slice_index columns.prev.now h < columns.n) × (slice_index columns.twin.now h < columns.n) },
 }
 
-// The smallest dart with a ring of more than 64 darts.
-fn first_overlong(n: u32, next: &[u32], prev: &[u32], twin: &[u32]) -> Option<u32>
-    requires long { (n ≤ length next.now) × (n ≤ length prev.now) × (n ≤ length twin.now) }
-    requires inside { smallest n (outside (tables n next.now prev.now twin.now)) ≡ None }
-    ensures { result ≡ smallest n (overlong (tables n next.now prev.now twin.now)) }
-{
-    for h in 0..n {
-        if is_overlong(n, next, prev, twin, h) {
-            return Some(h);
+// (That h is a dart is asked by each call that takes one: a type of darts would have to borrow the tables again.)
+impl<'a> Inner<'a> {
+    // The smallest dart where an undoing fails, or that is its own twin.
+    fn first_torn(&self) -> Option<u32>
+        ensures { result ≡ smallest self.now.columns.n (torn (drawn self.now.columns)) }
+    {
+        (0..self.columns.n).find(|h| self.is_torn(*h))
+    }
+
+    // Whether an undoing fails at h, or h is its own twin.
+    fn is_torn(&self, h: u32) -> bool
+        requires { h < self.now.columns.n }
+        ensures { result ≡ torn (drawn self.now.columns) h }
+    {
+        let Columns {
+            next,
+            prev,
+            twin,
+            ..
+        } = self.columns;
+        let a = next[h as usize];
+        let b = prev[h as usize];
+        let t = twin[h as usize];
+        prev[a as usize] != h || next[b as usize] != h || twin[t as usize] != h || t == h
+    }
+
+    // The smallest dart with a ring of more than 64 darts.
+    fn first_overlong(&self) -> Option<u32>
+        ensures { result ≡ smallest self.now.columns.n (overlong (drawn self.now.columns)) }
+    {
+        (0..self.columns.n).find(|h| self.is_overlong(*h))
+    }
+
+    // Whether a ring of h has more than 64 darts.
+    fn is_overlong(&self, h: u32) -> bool
+        requires { h < self.now.columns.n }
+        ensures { result ≡ overlong (drawn self.now.columns) h }
+    {
+        self.is_open(Ring::Face, h) || self.is_open(Ring::Vertex, h)
+    }
+
+    // Whether 64 steps along a ring do not come back to h.
+    fn is_open(&self, ring: Ring, h: u32) -> bool
+        requires { h < self.now.columns.n }
+        ensures { result ≡ long_ring (along ring (drawn self.now.columns)) h }
+    {
+        let mut c = self.step(ring, h);
+        for _k in 1..RING {
+            if c == h {
+                break;
+            }
+            c = self.step(ring, c);
+        }
+        c != h
+    }
+
+    // The dart after h in its ring.
+    fn step(&self, ring: Ring, h: u32) -> u32
+        requires { h < self.now.columns.n }
+        ensures step { result ≡ along ring (drawn self.now.columns) h }
+        ensures below { result < self.now.columns.n }
+    {
+        let Columns {
+            next,
+            prev,
+            twin,
+            ..
+        } = self.columns;
+        match ring {
+            Ring::Face => next[h as usize],
+            Ring::Back => prev[h as usize],
+            Ring::Vertex => next[twin[h as usize] as usize],
         }
     }
-    None
-}
-
-// Whether a ring of h has more than 64 darts.
-fn is_overlong(n: u32, next: &[u32], prev: &[u32], twin: &[u32], h: u32) -> bool
-    requires long { (n ≤ length next.now) × (n ≤ length prev.now) × (n ≤ length twin.now) }
-    requires inside { smallest n (outside (tables n next.now prev.now twin.now)) ≡ None }
-    requires below { h < n }
-    ensures { result ≡ overlong (tables n next.now prev.now twin.now) h }
-{
-    open_face(n, next, h) || open_vertex(n, next, twin, h)
-}
-
-// Whether next has not come back to h after 64 steps.
-fn open_face(n: u32, next: &[u32], h: u32) -> bool
-    requires long { n ≤ length next.now }
-    requires inside { (k : ℕ) → k < n → slice_index next.now k < n }
-    requires below { h < n }
-    ensures { result ≡ long_ring (λ k. slice_index next.now k) h }
-{
-    let mut c = next[h as usize];
-    let mut k = 1u32;
-    while k < RING && c != h {
-        c = next[c as usize];
-        k += 1;
-    }
-    c != h
-}
-
-// Whether turn has not come back to h after 64 steps.
-fn open_vertex(n: u32, next: &[u32], twin: &[u32], h: u32) -> bool
-    requires long { (n ≤ length next.now) × (n ≤ length twin.now) }
-    requires inside { ((k : ℕ) → k < n → slice_index next.now k < n) × ((k : ℕ) → k < n → slice_index twin.now k < n) }
-    requires below { h < n }
-    ensures { result ≡ long_ring (λ k. slice_index next.now (slice_index twin.now k)) h }
-{
-    let mut c = next[twin[h as usize] as usize];
-    let mut k = 1u32;
-    while k < RING && c != h {
-        c = next[twin[c as usize] as usize];
-        k += 1;
-    }
-    c != h
 }

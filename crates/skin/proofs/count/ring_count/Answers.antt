@@ -1,35 +1,43 @@
-use Rattle.std.proofs.Common.{◌≡◌, ℕ, sym, ap, ◌∙◌, subst, arith}
-use Rattle.mesh.specs.Count.{leads, rings, Classes}
-use Rattle.mesh.proofs.Leads.{count_none, count_le, count_yes, count_no}
+use Rattle.std.proofs.Common.{◌≡◌, ℕ, ◌≤◌, length, ◌∙◌, sym, ap, subst, inl, arith}
+use Rattle.std.proofs.lemmas.Iterator.Consumers.{YieldsList-from_first, count_from_yields_List}
+use Rattle.mesh.specs.Mesh.{Mesh, Lawful}
+use Rattle.mesh.specs.Count.{leads, rings, leaders, Classes}
+use Rattle.mesh.proofs.Leads.{count_le}
+use Rattle.mesh.proofs.Leaders.{leaders_count}
 use Rattle.mesh.proofs.Once.{classes}
 use Rattle.skin.specs.Skins.{mesh}
 use Rattle.skin.specs.Counts.{along}
 use Rattle.skin.proofs.Alongs.{along_rounds}
-use Rattle.skin.proofs.Calls.{of_dart}
+use Rattle.skin.proofs.count.ring_count.Given as given
 use Rattle.skin.proofs.count.ring_count.Goals as goal
-use Rattle.skin.proofs.count.ring_count.Goals.{then-leads_ring, else-leads_ring}
+use Rattle.skin.proofs.count.ring_count.Goals.{After-count}
 
-pub loop-h-init : goal.loop-h-init
-loop-h-init g c = count_none (leads (along c.args.ring (mesh g.S.Skin c.args.skin.now)))
-
-pub overflow_add-found : goal.overflow_add-found
-overflow_add-found g c = omega (arith, count_le (leads (along c.args.ring (mesh g.S.Skin c.args.skin.now))) c.loop-h.h, c.loop-h.invariant, c.loop-h-test.true, c.n-n.type_inv)
-
-pub loop-h-preserved : goal.loop-h-preserved
-loop-h-preserved g c =
+counted : (g : given.Over) (c : After-count g) → c.count.result ≡ rings (along c.args.ring (mesh g.S.Skin c.args.skin.now)) (g.S.Skin.n c.args.skin.now)
+counted g c =
     let m = mesh g.S.Skin c.args.skin.now in
-    let p = leads (along c.args.ring m) in
-    let said = of_dart m.n c.loop-h.h (p c.loop-h.h) (omega arith) in
-    elim c.if-leads_ring.branch [
-      | then-leads_ring w ↦ w.found-is ∙ count_yes p c.loop-h.h c.loop-h.found c.loop-h.invariant (sym said ∙ sym w.if-leads_ring.ensures)
-      | else-leads_ring w ↦ w.found-is ∙ count_no p c.loop-h.h c.loop-h.found c.loop-h.invariant (sym said ∙ sym w.if-leads_ring.ensures)
-    ]
+    let f : ℕ → ℕ = along c.args.ring m in
+    count_from_yields_List _ c.count.result c.count.ensures.ran (YieldsList-from_first (λ x. x) _ (leaders f m.n) c.leaders.ensures)
+    ∙ leaders_count f m.n
+
+-- there are no more than darts
+few : (f : ℕ → ℕ) (m : Mesh) → Lawful m → length (leaders f m.n) ≤ 1048576
+few f m l = omega (arith, leaders_count f m.n, count_le (leads f) m.n, l.few)
+
+pub count-requires-clause-fits : goal.count-requires-clause-fits
+count-requires-clause-fits g c =
+    let m = mesh g.S.Skin c.args.skin.now in
+    inl (omega (arith, ap length c.leaders.ensures, few (along c.args.ring m) m (g.S.Skin.lawful c.args.skin.now)))
+
+pub overflow_cast-result : goal.overflow_cast-result
+overflow_cast-result g c =
+    let m = mesh g.S.Skin c.args.skin.now in
+    let f : ℕ → ℕ = along c.args.ring m in
+    omega (arith, counted g (goal.at.overflow_cast-result g c).After-count, count_le (leads f) m.n, (g.S.Skin.lawful c.args.skin.now).few)
 
 pub returns : goal.returns
 returns g c =
     let m = mesh g.S.Skin c.args.skin.now in
     let f : ℕ → ℕ = along c.args.ring m in
     let r = along_rounds c.args.ring m (g.S.Skin.lawful c.args.skin.now) in
-    let end : c.loop-h.h ≡ m.n = omega (arith, c.loop-h-test.false, c.loop-h.auto.h-end, c.n-n.ensures) in
-    let all : c.loop-h.found ≡ rings f m.n = c.loop-h.invariant ∙ ap (rings f) end in
-    record { answer = all; classes = subst (Classes m.n f) (sym all) (classes m.n f r.below r.short) }
+    let e = counted g (goal.at.returns g c).After-count in
+    record { answer = e; classes = subst (Classes m.n f) (sym e) (classes m.n f r.below r.short) }

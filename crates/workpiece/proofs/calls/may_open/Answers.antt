@@ -1,64 +1,29 @@
--- What is read of a dart and its turn decides whether they agree.
-use Rattle.std.proofs.Common.{◌<◌, ◌≤◌, [], map, length, get_or, sym, ap, ◌∙◌, arith, below_more}
-use Rattle.std.proofs.lemmas.Bool.{both_ways}
+-- The first dart that differs from its turn, if there is one.
+use Rattle.std.proofs.Common.{ℕ, ◌<◌, ◌≤◌, map, Some, None, arith, rules}
 use Rattle.std.proofs.lemmas.List.{length-map}
-use Rattle.mesh.proofs.DualLaws.{turn_below}
+use Rattle.std.proofs.lemmas.Iterator.{first_from_Range}
+use borrow.Author.Tests.{tests}
 use Rattle.skin.specs.Skins.{mesh}
 use Rattle.point.specs.Kinds.{place as placing}
-use Rattle.workpiece.proofs.Lists.{place_point}
+use Rattle.workpiece.specs.Opening.{Agreeing, Differing}
 use Rattle.workpiece.proofs.calls.may_open.Goals as goal
 
-pub returns-then-table-n : goal.returns-then-table-n
-returns-then-table-n g c = (c.n-n.ensures, omega (arith, c.if-table-n.true, c.n-n.ensures, length-map c.args.table.now (placing g.K.PointKind)))
-
-pub loop-h-init : goal.loop-h-init
-loop-h-init g c = λ k l. absurd (omega arith)
-
-pub loop-h-preserved : goal.loop-h-preserved
-loop-h-preserved g c =
+pub returns-in-Some : goal.returns-in-Some
+returns-in-Some g c =
     let m = mesh g.S.Skin c.args.skin.now in
-    let t = c.args.table.now in
-    let low : c.loop-h.h < m.n = omega (arith, c.loop-h-test.true, c.n-n.ensures) in
-    let turn_low : c.following-t.result < m.n = rw c.following-t.ensures (turn_below (mesh g.S.Skin c.args.skin.now) (g.S.Skin.lawful c.args.skin.now) c.loop-h.h low) in
-    let fits : m.n ≤ length t = omega (arith, c.if-table-n.false, c.n-n.ensures) in
-    below_more _ _ c.loop-h.invariant
-    (sym (ap g.K.PointKind.numbers c.load-a.ensures ∙ place_point (placing g.K.PointKind) t c.loop-h.h _ (omega (arith, low, fits)) c.index-table-h.is)
-    ∙ c.alike.ensures.0 c.if-not-alike.false
-    ∙ (ap g.K.PointKind.numbers c.load-b.ensures ∙ place_point (placing g.K.PointKind) t c.following-t.result _ (omega (arith, turn_low, fits)) c.index-table-t.is)
-    ∙ ap (λ x. get_or (map (placing g.K.PointKind) t) x []) c.following-t.ensures)
+    let t = map (placing g.K.PointKind) c.args.table.now in
+    let h : ℕ = c.in-Some.h in
+    let first : (0 ≤ h) × (h < c.n-n.result) × Differing m t h × ((k : ℕ) → 0 ≤ k → k < h → Agreeing m t k) =
+    first_from_Range _ _ _ (Some h) (Differing m t) (Agreeing m t) c.in-Some.ensures.ran (λ x q k. search (rules, tests)) (λ x q k. search (rules, tests)) in
+    (rw (length-map c.args.table.now (placing g.K.PointKind)) (omega arith), omega arith, λ k l. first.3 k (omega arith) l, first.2)
 
-pub bounds-table-t : goal.bounds-table-t
-bounds-table-t g c =
+pub returns-in-None : goal.returns-in-None
+returns-in-None g c =
     let m = mesh g.S.Skin c.args.skin.now in
-    let turn_low : c.following-t.result < m.n = rw c.following-t.ensures (turn_below (mesh g.S.Skin c.args.skin.now) (g.S.Skin.lawful c.args.skin.now) c.loop-h.h (omega (arith, c.loop-h-test.true, c.n-n.ensures))) in
-    omega (arith, turn_low, c.if-table-n.false, c.n-n.ensures)
-
-pub offset_bounds-table-t : goal.offset_bounds-table-t
-offset_bounds-table-t g c =
-    let m = mesh g.S.Skin c.args.skin.now in
-    let turn_low : c.following-t.result < m.n = rw c.following-t.ensures (turn_below (mesh g.S.Skin c.args.skin.now) (g.S.Skin.lawful c.args.skin.now) c.loop-h.h (omega (arith, c.loop-h-test.true, c.n-n.ensures))) in
-    omega (arith, turn_low, c.if-table-n.false, c.n-n.ensures)
-
-pub returns-then-not-alike : goal.returns-then-not-alike
-returns-then-not-alike g c =
-    let m = mesh g.S.Skin c.args.skin.now in
-    let t = c.args.table.now in
-    let low : c.loop-h.h < m.n = omega (arith, c.loop-h-test.true, c.n-n.ensures) in
-    let turn_low : c.following-t.result < m.n = rw c.following-t.ensures (turn_below (mesh g.S.Skin c.args.skin.now) (g.S.Skin.lawful c.args.skin.now) c.loop-h.h low) in
-    let fits : m.n ≤ length t = omega (arith, c.if-table-n.false, c.n-n.ensures) in (
-      rw (length-map t (placing g.K.PointKind)) fits,
-      low,
-      c.loop-h.invariant,
-      λ e. both_ways _ c.if-not-alike.true (c.alike.ensures.1
-          (ap g.K.PointKind.numbers c.load-a.ensures ∙ place_point (placing g.K.PointKind) t c.loop-h.h _ (omega (arith, low, fits)) c.index-table-h.is
-          ∙ e ∙ ap (λ x. get_or (map (placing g.K.PointKind) t) x []) (sym c.following-t.ensures)
-          ∙ sym (ap g.K.PointKind.numbers c.load-b.ensures ∙ place_point (placing g.K.PointKind) t c.following-t.result _ (omega (arith, turn_low, fits)) c.index-table-t.is))),
-    )
-
-pub returns : goal.returns
-returns g c =
-    let m = mesh g.S.Skin c.args.skin.now in
+    let t = map (placing g.K.PointKind) c.args.table.now in
+    let all : (k : ℕ) → 0 ≤ k → k < c.n-n.result → Agreeing m t k =
+    first_from_Range _ _ _ None (Differing m t) (Agreeing m t) c.in-None.ensures.ran (λ x q k. search (rules, tests)) (λ x q k. search (rules, tests)) in
     record {
-      fits = rw (length-map c.args.table.now (placing g.K.PointKind)) (omega (arith, c.if-table-n.false, c.n-n.ensures));
-      agree = λ h l. c.loop-h.invariant h (omega (arith, c.loop-h-test.false, c.n-n.ensures));
+      fits = rw (length-map c.args.table.now (placing g.K.PointKind)) (omega arith);
+      agree = λ h l. all h (omega arith) (omega arith);
     }

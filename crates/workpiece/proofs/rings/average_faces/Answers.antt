@@ -1,6 +1,6 @@
 -- A dart that leads its ring has the ring averaged, and any other changes nothing.
-use Rattle.std.proofs.Common.{◌≡◌, ◌+◌, ◌<◌, ◌≤◌, List, map, sym, ap, ◌∙◌, subst, arith, rules}
-use Rattle.mesh.specs.Count.{rings, leads}
+use Rattle.std.proofs.Common.{◌≡◌, ◌+◌, ◌<◌, List, map, sym, ◌∙◌, subst, arith}
+use Rattle.mesh.specs.Count.{leads}
 use Rattle.mesh.proofs.Leads.{count_none, count_yes, count_no}
 use Rattle.skin.specs.Skins.{mesh}
 use Rattle.point.specs.Kinds.{place, mean_point}
@@ -10,12 +10,6 @@ use Rattle.workpiece.proofs.rings.average_faces.Goals.{in-Some, in_default}
 
 pub loop-h-init : goal.loop-h-init
 loop-h-init g c = (omega arith, count_none (leads (g.S.Skin.next c.args.skin.now)), part_none (g.S.Skin.lawful c.args.skin.now))
-
-pub overflow_add-rings : goal.overflow_add-rings
-overflow_add-rings g c =
-    let few = (g.S.Skin.lawful c.args.skin.now).few in
-    let k : c.loop-h.rings ≤ 1048576 = omega (arith, c.loop-h.invariant.0, c.loop-h-test.true, c.n-h-end.ensures) in
-    search rules
 
 pub loop-h-preserved : goal.loop-h-preserved
 loop-h-preserved g c =
@@ -39,12 +33,9 @@ loop-h-preserved g c =
           ))
     ]
 
-pub returns : goal.returns
-returns g c =
+pub returns-clause-places : goal.returns-clause-places
+returns-clause-places g c =
     let law = g.S.Skin.lawful c.args.skin.now in
     let m = mesh g.S.Skin c.args.skin.now in
     let all : c.loop-h.h ≡ m.n = omega (arith, c.loop-h-test.false, c.n-h-end.ensures, c.loop-h.auto.h-end) in
-    record {
-      count = c.loop-h.invariant.1 ∙ ap (rings m.next) all;
-      places = part_all law (subst (λ a. Part g.K.PointKind.width (mean_point g.K.PointKind) m (map (place g.K.PointKind) c.args.table.now) a (map (place g.K.PointKind) c.loop-h.table)) all c.loop-h.invariant.2);
-    }
+    part_all law (subst (λ a. Part g.K.PointKind.width (mean_point g.K.PointKind) m (map (place g.K.PointKind) c.args.table.now) a (map (place g.K.PointKind) c.loop-h.table)) all c.loop-h.invariant.2)

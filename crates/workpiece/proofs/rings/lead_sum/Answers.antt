@@ -1,84 +1,97 @@
--- The walk round a face ring: its darts so far are h or more, and the sum is over them.
-use Rattle.std.proofs.Common.{◌≡◌, ℕ, ◌<◌, ◌≤◌, true, false, ◌&&◌, leb, [], map, get_or, sym, ap, ◌∙◌, ⊎_elim, add-one, arith, rules}
+-- Each turn of the loop adds one dart more, until it is all round or meets a smaller dart.
+use Rattle.std.proofs.Common.{◌≡◌, ℕ, ◌+◌, ◌<◌, true, false, ◌&&◌, leb, [], ◌∷◌, ◌++◌, map, length, get_or, sym, ap, ◌∙◌, subst, ⊎_elim, add-one, arith, rules}
+use Rattle.std.specs.Prelude.{is_ok}
 use Rattle.std.proofs.lemmas.Bool.{cases_Bool, and_from, le-leb}
-use Rattle.mesh.specs.Mesh.{floor}
+use Rattle.std.proofs.lemmas.List.{length_push}
+use Rattle.mesh.specs.Mesh.{times, floor}
 use Rattle.mesh.specs.Count.{leads}
-use Rattle.mesh.proofs.Rings.{times_zero, orbit, ring_orbit, ring_pos}
-use Rattle.mesh.proofs.Rounds.{period, face_rounds, floor_snoc, not_round, all_round, walked, walked_one}
+use Rattle.mesh.proofs.Rings.{orbit, ring_orbit, times_zero, times_suc, On, on_steps, on_sym}
+use Rattle.mesh.proofs.Rounds.{face_rounds, floor_snoc}
 use Rattle.mesh.proofs.Leads.{decides_leads}
 use Rattle.skin.specs.Skins.{mesh}
+use Rattle.skin.proofs.Calls.{unwrapped}
 use Rattle.point.specs.Points.{Point, totals}
 use Rattle.point.specs.Kinds.{place}
 use Rattle.workpiece.proofs.Lists.{place_point, add_more}
+use Rattle.workpiece.proofs.Orbits.{dart_turn, dart_end}
 use Rattle.workpiece.proofs.rings.lead_sum.Goals as goal
 
-pub loop-c-init : goal.loop-c-init
-loop-c-init g c =
+-- the dart before is smaller
+pub returns-then-unwrap-h : goal.returns-then-unwrap-h
+returns-then-unwrap-h g c =
     let m = mesh g.S.Skin c.args.skin.now in
     let law = g.S.Skin.lawful c.args.skin.now in
-    let at : ℕ → Point = λ x. get_or (map (place g.K.PointKind) c.args.table.now) x [] in
-    let r = add_more g.K.PointKind.width at m.next c.args.h 0 (g.K.PointKind.numbers c.load-first.result) _ _ _ _ c.add.result
-    c.add.ensures.answer c.add.ensures.count c.add.ensures.sums c.start-sum.ensures.count (omega arith) c.start-sum.ensures.sums
-    (ap g.K.PointKind.numbers c.load-first.ensures ∙ place_point (place g.K.PointKind) c.args.table.now c.args.h _ (omega arith) c.index-table-h.is ∙ ap at (sym (times_zero m.next c.args.h))) in (
-      rw c.following-c.ensures (law.next_below c.args.h c.requires.within),
-      omega arith,
-      ring_pos m.next c.args.h,
-      walked_one (face_rounds {m = m} law) c.args.h _ c.following-c.ensures,
-      ap (λ b. b && true) (le-leb c.args.h c.args.h (omega arith)),
-      r.0,
-      r.1,
-    )
-
-pub loop-c-smaller : goal.loop-c-smaller
-loop-c-smaller g c =
-    let m = mesh g.S.Skin c.args.skin.now in
-    omega (arith, (g.S.Skin.lawful c.args.skin.now).faces_short c.args.h c.requires.within, not_round (face_rounds {m = m} (g.S.Skin.lawful c.args.skin.now)) c.args.h c.loop-c.k c.loop-c.c c.requires.within c.loop-c.invariant.2 c.loop-c.invariant.3 c.loop-c-test.true)
+    let f : ℕ → ℕ = m.next in
+    let h : ℕ = c.args.h in
+    let before : ℕ = m.prev h in
+    let short = law.faces_short before (law.prev_below h c.requires.within) in
+    let one : times 1 f before ≡ h = times_suc 0 f before ∙ ap f (times_zero f before) ∙ law.next_prev h c.requires.within in
+    let o = on_sym f before h short (subst (On f before) one (on_steps f before short 1)) in
+    let decides = decides_leads f h (law.faces_short h c.requires.within) in
+    let is : c.unwrap.result ≡ before = (unwrapped m.n h before c.unwrap.result c.prev.ensures c.unwrap.ensures).1 in
+    ⊎_elim (λ (yes' : leads f h ≡ true). absurd (omega (arith, decides.0 yes' o.0, o.2, is, c.if-unwrap-h.true)))
+    (λ (no' : leads f h ≡ false). no') (cases_Bool (leads f h))
 
 -- a smaller dart is met
-pub returns-then-c-h : goal.returns-then-c-h
-returns-then-c-h g c =
+pub returns-then-d-h : goal.returns-then-d-h
+returns-then-d-h g c =
     let m = mesh g.S.Skin c.args.skin.now in
-    let law = g.S.Skin.lawful c.args.skin.now in
-    let d = decides_leads m.next c.args.h (law.faces_short c.args.h c.requires.within) in
-    ⊎_elim (λ (yes' : leads m.next c.args.h ≡ true). absurd (omega (arith, d.0 yes' c.loop-c.k, c.loop-c.invariant.3, c.if-c-h.true)))
-    (λ (no' : leads m.next c.args.h ≡ false). no') (cases_Bool (leads m.next c.args.h))
+    let f : ℕ → ℕ = m.next in
+    let r = face_rounds {m = m} (g.S.Skin.lawful c.args.skin.now) in
+    let q = dart_turn g.S.Skin r c.requires.within c.into_iter-d-iterator.ensures.into_iter_gives c.orbit-d-items.ensures c.loop-d.yielded c.loop-d.d-iterator c.next.new.self c.loop-d.yielded_by c.next.ensures.steps c.in-Some.is in
+    let decides = decides_leads f c.args.h (r.short c.args.h c.requires.within) in
+    ⊎_elim (λ (yes' : leads f c.args.h ≡ true). absurd (omega (arith, decides.0 yes' (length c.loop-d.yielded), q.1, c.if-d-h.true)))
+    (λ (no' : leads f c.args.h ≡ false). no') (cases_Bool (leads f c.args.h))
 
-pub overflow_add-k : goal.overflow_add-k
-overflow_add-k g c =
-    let k : c.loop-c.k ≤ 64 = omega (arith, (g.S.Skin.lawful c.args.skin.now).faces_short c.args.h c.requires.within, c.loop-c.invariant.2) in
+pub bounds-table-d : goal.bounds-table-d
+bounds-table-d g c =
+    let m = mesh g.S.Skin c.args.skin.now in
+    let f : ℕ → ℕ = m.next in
+    let r = face_rounds {m = m} (g.S.Skin.lawful c.args.skin.now) in
+    let q = dart_turn g.S.Skin r c.requires.within c.into_iter-d-iterator.ensures.into_iter_gives c.orbit-d-items.ensures c.loop-d.yielded c.loop-d.d-iterator c.next.new.self c.loop-d.yielded_by c.next.ensures.steps c.in-Some.is in
+    omega (arith, q.2, c.requires.covers)
+
+pub offset_bounds-table-d : goal.offset_bounds-table-d
+offset_bounds-table-d g c =
+    let m = mesh g.S.Skin c.args.skin.now in
+    let f : ℕ → ℕ = m.next in
+    let r = face_rounds {m = m} (g.S.Skin.lawful c.args.skin.now) in
+    let q = dart_turn g.S.Skin r c.requires.within c.into_iter-d-iterator.ensures.into_iter_gives c.orbit-d-items.ensures c.loop-d.yielded c.loop-d.d-iterator c.next.new.self c.loop-d.yielded_by c.next.ensures.steps c.in-Some.is in
+    let inside : c.in-Some.d < length c.args.table.now = omega (arith, q.2, c.requires.covers) in
     search rules
 
-pub loop-c-preserved : goal.loop-c-preserved
-loop-c-preserved g c =
+pub loop-d-preserved : goal.loop-d-preserved
+loop-d-preserved g c =
     let m = mesh g.S.Skin c.args.skin.now in
-    let law = g.S.Skin.lawful c.args.skin.now in
+    let f : ℕ → ℕ = m.next in
+    let r = face_rounds {m = m} (g.S.Skin.lawful c.args.skin.now) in
+    let q = dart_turn g.S.Skin r c.requires.within c.into_iter-d-iterator.ensures.into_iter_gives c.orbit-d-items.ensures c.loop-d.yielded c.loop-d.d-iterator c.next.new.self c.loop-d.yielded_by c.next.ensures.steps c.in-Some.is in
     let at : ℕ → Point = λ x. get_or (map (place g.K.PointKind) c.args.table.now) x [] in
     let h : ℕ = c.args.h in
-    let k : ℕ = c.loop-c.k in
-    let inv = c.loop-c.invariant in
-    let more : k < period m.next h = not_round (face_rounds {m = m} law) h k c.loop-c.c c.requires.within inv.2 inv.3 c.loop-c-test.true in
-    let r = add_more g.K.PointKind.width at m.next h k (g.K.PointKind.numbers c.load-p.result) _ _ _ _ c.add-in-loop-c.result
-    c.add-in-loop-c.ensures.answer c.add-in-loop-c.ensures.count c.add-in-loop-c.ensures.sums inv.5 (omega (arith, law.faces_short h c.requires.within)) inv.6
-    (ap g.K.PointKind.numbers c.load-p.ensures ∙ place_point (place g.K.PointKind) c.args.table.now c.loop-c.c _ (omega (arith, inv.0, c.requires.covers)) c.index-table-c.is ∙ ap at inv.3) in (
-      rw c.following-c-in-loop-c.ensures (law.next_below c.loop-c.c inv.0),
-      omega arith,
-      omega arith,
-      walked (face_rounds {m = m} law) h k c.loop-c.c _ inv.3 c.following-c-in-loop-c.ensures,
-      ap (λ j. floor h (orbit j m.next h)) (add-one k) ∙ floor_snoc h k m.next h
-          ∙ ap (λ y. floor h (orbit k m.next h) && leb h y) (sym inv.3) ∙ and_from _ _ inv.4 (le-leb h c.loop-c.c c.if-c-h.false),
-      r.0,
-      r.1,
+    let k : ℕ = length c.loop-d.yielded in
+    let inv = c.loop-d.invariant in
+    let more : length (c.loop-d.yielded ++ c.in-Some.d ∷ []) ≡ k + 1 = length_push c.loop-d.yielded c.in-Some.d in
+    let all = add_more g.K.PointKind.width at f h k (g.K.PointKind.numbers c.load.result) _ _ _ _ (is_ok c.add.result)
+    c.add.ensures.answer c.add.ensures.count c.add.ensures.sums inv.3 (omega (arith, r.short h c.requires.within, q.0)) inv.4
+    (ap g.K.PointKind.numbers c.load.ensures ∙ place_point (place g.K.PointKind) c.args.table.now c.in-Some.d _ (omega (arith, q.2, c.requires.covers)) c.index-table-d.is ∙ ap at q.1) in (
+      tt,
+      tt,
+      ap (λ j. floor h (orbit j f h)) (more ∙ add-one k) ∙ floor_snoc h k f h
+          ∙ ap (λ y. floor h (orbit k f h) && leb h y) (sym q.1) ∙ and_from _ _ inv.2 (le-leb h c.in-Some.d c.if-d-h.false),
+      all.0 ∙ sym more,
+      all.1 ∙ ap (λ j. totals g.K.PointKind.width (map at (orbit j f h))) (sym more),
     )
 
 pub returns : goal.returns
 returns g c =
     let m = mesh g.S.Skin c.args.skin.now in
-    let law = g.S.Skin.lawful c.args.skin.now in
+    let f : ℕ → ℕ = m.next in
+    let r = face_rounds {m = m} (g.S.Skin.lawful c.args.skin.now) in
+    let e = dart_end g.S.Skin r c.requires.within c.into_iter-d-iterator.ensures.into_iter_gives c.orbit-d-items.ensures c.loop-d.yielded c.loop-d.d-iterator c.next.new.self c.loop-d.yielded_by c.next.ensures.steps c.in-None.is in
     let at : ℕ → Point = λ x. get_or (map (place g.K.PointKind) c.args.table.now) x [] in
     let h : ℕ = c.args.h in
-    let inv = c.loop-c.invariant in
-    let e = all_round (face_rounds {m = m} law) h c.loop-c.k c.loop-c.c inv.1 inv.2 inv.3 c.loop-c-test.false in (
-      ap (floor h) (ring_orbit m.next h) ∙ ap (λ k. floor h (orbit k m.next h)) (sym e) ∙ inv.4,
-      inv.5 ∙ e,
-      inv.6 ∙ ap (λ k. totals g.K.PointKind.width (map at (orbit k m.next h))) e ∙ ap (λ ds. totals g.K.PointKind.width (map at ds)) (sym (ring_orbit m.next h)),
+    let inv = c.loop-d.invariant in (
+      ap (floor h) (ring_orbit f h) ∙ ap (λ k. floor h (orbit k f h)) (sym e) ∙ inv.2,
+      inv.3 ∙ e,
+      inv.4 ∙ ap (λ k. totals g.K.PointKind.width (map at (orbit k f h))) e ∙ ap (λ ds. totals g.K.PointKind.width (map at ds)) (sym (ring_orbit f h)),
     )

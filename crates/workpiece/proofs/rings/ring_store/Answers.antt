@@ -1,67 +1,57 @@
--- Each step of the walk writes one dart more, until it is all round.
-use Rattle.std.proofs.Common.{ℕ, ◌<◌, ◌≤◌, cond, [], map, length, get_or, sym, ap, ◌∙◌, arith, rules}
-use Rattle.std.proofs.lemmas.List.{length-set, length-map}
+-- Each turn of the loop writes one dart more, until it is all round.
+use Rattle.std.proofs.Common.{ℕ, ◌<◌, cond, [], map, length, get_or, sym, ap, ◌∙◌, arith, rules}
+use Rattle.std.proofs.lemmas.List.{length-map, length_push}
 use Rattle.mesh.specs.Mesh.{among}
-use Rattle.mesh.proofs.Rings.{orbit, ring_orbit, ring_pos}
-use Rattle.mesh.proofs.Rounds.{period, not_round, all_round, walked, walked_one}
+use Rattle.mesh.proofs.Rings.{orbit, ring_orbit}
 use Rattle.skin.specs.Skins.{mesh}
 use Rattle.skin.specs.Counts.{along}
 use Rattle.skin.proofs.Alongs.{along_rounds}
 use Rattle.point.specs.Kinds.{place}
-use Rattle.workpiece.proofs.Stores.{set_point, written_first, written_more, written_all}
+use Rattle.workpiece.proofs.Orbits.{dart_turn, dart_end}
+use Rattle.workpiece.proofs.Stores.{set_point, written_more}
 use Rattle.workpiece.proofs.rings.ring_store.Goals as goal
 
-pub loop-c-init : goal.loop-c-init
-loop-c-init g c =
+pub bounds-table-d : goal.bounds-table-d
+bounds-table-d g c =
     let m = mesh g.S.Skin c.args.skin.now in
-    let r = along_rounds c.args.ring m (g.S.Skin.lawful c.args.skin.now) in (
-      rw c.following-c.ensures (r.below c.args.h c.requires.within),
-      omega arith,
-      ring_pos (along c.args.ring m) c.args.h,
-      walked_one r c.args.h _ c.following-c.ensures,
-      λ x. written_first x c.args.h (along c.args.ring m) (place g.K.PointKind c.args.p) (get_or (map (place g.K.PointKind) c.args.table.now) x []) _
-          (set_point (place g.K.PointKind) c.args.table.now c.args.h x c.args.p (omega arith)),
-    )
-
-pub loop-c-smaller : goal.loop-c-smaller
-loop-c-smaller g c =
-    let m = mesh g.S.Skin c.args.skin.now in
+    let f : ℕ → ℕ = along c.args.ring m in
     let r = along_rounds c.args.ring m (g.S.Skin.lawful c.args.skin.now) in
-    omega (arith, (along_rounds c.args.ring m (g.S.Skin.lawful c.args.skin.now)).short c.args.h c.requires.within, not_round r c.args.h c.loop-c.k c.loop-c.c c.requires.within c.loop-c.invariant.2 c.loop-c.invariant.3 c.loop-c-test.true)
+    let q = dart_turn g.S.Skin r c.requires.within c.into_iter-d-iterator.ensures.into_iter_gives c.orbit-d-items.ensures c.loop-d.yielded c.loop-d.d-iterator c.next.new.self c.loop-d.yielded_by c.next.ensures.steps c.in-Some.is in
+    omega (arith, q.2, c.requires.covers, c.loop-d.auto.table)
 
-pub overflow_add-k : goal.overflow_add-k
-overflow_add-k g c =
+pub offset_bounds-table-d : goal.offset_bounds-table-d
+offset_bounds-table-d g c =
     let m = mesh g.S.Skin c.args.skin.now in
-    let k : c.loop-c.k ≤ 64 = omega (arith, (along_rounds c.args.ring m (g.S.Skin.lawful c.args.skin.now)).short c.args.h c.requires.within, c.loop-c.invariant.2) in
+    let f : ℕ → ℕ = along c.args.ring m in
+    let r = along_rounds c.args.ring m (g.S.Skin.lawful c.args.skin.now) in
+    let q = dart_turn g.S.Skin r c.requires.within c.into_iter-d-iterator.ensures.into_iter_gives c.orbit-d-items.ensures c.loop-d.yielded c.loop-d.d-iterator c.next.new.self c.loop-d.yielded_by c.next.ensures.steps c.in-Some.is in
+    let inside : c.in-Some.d < length c.loop-d.table = omega (arith, q.2, c.requires.covers, c.loop-d.auto.table) in
     search rules
 
-pub loop-c-preserved : goal.loop-c-preserved
-loop-c-preserved g c =
+pub loop-d-preserved : goal.loop-d-preserved
+loop-d-preserved g c =
     let m = mesh g.S.Skin c.args.skin.now in
-    let r = along_rounds c.args.ring m (g.S.Skin.lawful c.args.skin.now) in
-    let inv = c.loop-c.invariant in
     let f : ℕ → ℕ = along c.args.ring m in
-    let more : c.loop-c.k < period f c.args.h = not_round r c.args.h c.loop-c.k c.loop-c.c c.requires.within inv.2 inv.3 c.loop-c-test.true in
-    let inside : c.loop-c.c < length c.loop-c.table = omega (arith, inv.0, c.requires.covers, c.loop-c.auto.table, length-set c.args.table.now c.args.h c.args.p) in (
-      rw c.following-c-in-loop-c.ensures (r.below c.loop-c.c inv.0),
-      omega arith,
-      omega arith,
-      walked r c.args.h c.loop-c.k c.loop-c.c _ inv.3 c.following-c-in-loop-c.ensures,
-      λ x. written_more x c.loop-c.c c.loop-c.k f c.args.h (place g.K.PointKind c.args.p) _ _ _ inv.3 (inv.4 x)
-          (set_point (place g.K.PointKind) c.loop-c.table c.loop-c.c x c.args.p inside),
+    let r = along_rounds c.args.ring m (g.S.Skin.lawful c.args.skin.now) in
+    let q = dart_turn g.S.Skin r c.requires.within c.into_iter-d-iterator.ensures.into_iter_gives c.orbit-d-items.ensures c.loop-d.yielded c.loop-d.d-iterator c.next.new.self c.loop-d.yielded_by c.next.ensures.steps c.in-Some.is in
+    let k : ℕ = length c.loop-d.yielded in
+    let inside : c.in-Some.d < length c.loop-d.table = omega (arith, q.2, c.requires.covers, c.loop-d.auto.table) in (
+      tt,
+      tt,
+      λ x. written_more x c.in-Some.d k f c.args.h (place g.K.PointKind c.args.p) _ _ _ q.1 (c.loop-d.invariant.2 x) (set_point (place g.K.PointKind) c.loop-d.table c.in-Some.d x c.args.p inside)
+          ∙ ap (λ j. cond (among x (orbit j f c.args.h)) (place g.K.PointKind c.args.p) (get_or (map (place g.K.PointKind) c.args.table.now) x [])) (sym (length_push c.loop-d.yielded c.in-Some.d)),
     )
 
 pub returns : goal.returns
 returns g c =
     let m = mesh g.S.Skin c.args.skin.now in
+    let f : ℕ → ℕ = along c.args.ring m in
     let r = along_rounds c.args.ring m (g.S.Skin.lawful c.args.skin.now) in
-    let inv = c.loop-c.invariant in
-    let e = all_round r c.args.h c.loop-c.k c.loop-c.c inv.1 inv.2 inv.3 c.loop-c-test.false in
+    let e = dart_end g.S.Skin r c.requires.within c.into_iter-d-iterator.ensures.into_iter_gives c.orbit-d-items.ensures c.loop-d.yielded c.loop-d.d-iterator c.next.new.self c.loop-d.yielded_by c.next.ensures.steps c.in-None.is in
     record {
-      long = length-map c.loop-c.table (place g.K.PointKind) ∙ c.loop-c.auto.table ∙ length-set c.args.table.now c.args.h c.args.p ∙ sym (length-map c.args.table.now (place g.K.PointKind));
+      long = length-map c.loop-d.table (place g.K.PointKind) ∙ c.loop-d.auto.table ∙ sym (length-map c.args.table.now (place g.K.PointKind));
       here = λ x.
-          written_all x c.args.h c.loop-c.k (along c.args.ring m) (place g.K.PointKind c.args.p) (get_or (map (place g.K.PointKind) c.args.table.now) x []) _ _ inv.1
-          (set_point (place g.K.PointKind) c.args.table.now c.args.h x c.args.p (omega arith)) (inv.4 x)
-          ∙ ap (λ k. cond (among x (orbit k (along c.args.ring m) c.args.h)) (place g.K.PointKind c.args.p) (get_or (map (place g.K.PointKind) c.args.table.now) x [])) e
-          ∙ ap (λ ds. cond (among x ds) (place g.K.PointKind c.args.p) (get_or (map (place g.K.PointKind) c.args.table.now) x [])) (sym (ring_orbit (along c.args.ring m) c.args.h));
+          c.loop-d.invariant.2 x
+          ∙ ap (λ k. cond (among x (orbit k f c.args.h)) (place g.K.PointKind c.args.p) (get_or (map (place g.K.PointKind) c.args.table.now) x [])) e
+          ∙ ap (λ ds. cond (among x ds) (place g.K.PointKind c.args.p) (get_or (map (place g.K.PointKind) c.args.table.now) x [])) (sym (ring_orbit f c.args.h));
     }

@@ -1,12 +1,9 @@
 -- Each turn fills four places, which no later turn reads.
 use Rattle.std.proofs.Common.{◌≡◌, ◌+◌, ◌-◌, map, subst, arith}
-use Rattle.workpiece.proofs.Fours.{Down, down_none, down_more, down_all}
+use Rattle.workpiece.proofs.Fours.{Down, down_more}
 use Rattle.workpiece.proofs.Lists.{place_point}
 use Rattle.point.specs.Kinds.{place}
 use Rattle.workpiece.proofs.rings.spread.Goals as goal
-
-pub loop-h-init : goal.loop-h-init
-loop-h-init g c = down_none c.args.n (map (place g.K.PointKind) c.args.table.now)
 
 pub loop-h-preserved : goal.loop-h-preserved
 loop-h-preserved g c =
@@ -16,8 +13,3 @@ loop-h-preserved g c =
     (place_point (place g.K.PointKind) c.loop-h.table (c.loop-h.h - 1) c.index-table-h.result
     (omega (arith, c.loop-h-test.true, c.loop-h.auto.h, c.requires.fits, c.loop-h.auto.table)) c.index-table-h.is)
     (subst (λ h. Down c.args.n (map (place g.K.PointKind) c.args.table.now) h (map (place g.K.PointKind) c.loop-h.table)) e c.loop-h.invariant)
-
-pub returns : goal.returns
-returns g c =
-    let e : c.loop-h.h ≡ 0 = omega (arith, c.loop-h-test.false) in
-    down_all (subst (λ h. Down c.args.n (map (place g.K.PointKind) c.args.table.now) h (map (place g.K.PointKind) c.loop-h.table)) e c.loop-h.invariant)

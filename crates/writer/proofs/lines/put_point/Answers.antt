@@ -1,54 +1,52 @@
-use Rattle.std.proofs.Common.{◌≡◌, ℕ, List, sym, subst, w32, SFits, rules}
-use Rattle.writer.specs.Buffer.{Put, Room}
+use Rattle.std.proofs.Common.{◌≡◌, ◌++◌, ℤ, sym, ap, ◌∙◌, subst, w32, SFits, to_z, of_z, rules, List, ℕ}
+use Rattle.std.specs.Fmt.{signed_decimal}
+use Rattle.std.proofs.lemmas.Int.{to_z-of_z}
+use Rattle.sheet.specs.Form.{blank, line_end}
 use Rattle.sheet.specs.Sheet.{point_text}
+use Rattle.point.specs.Solids.{meant_by}
 use Rattle.point.specs.declared.solid.SolidRecord.{SolidRecord}
-use Rattle.writer.proofs.Writes.{and_then, first_room, next_room, put_same, room_same}
+use Rattle.point.specs.declared.solid.SolidPoint.{SolidPoint}
+use Rattle.writer.specs.Pages.{HasRoom, Grows}
+use Rattle.writer.specs.Points.{meant}
+use Rattle.writer.proofs.Writes.{first_room}
+use Rattle.writer.proofs.Pages.{grows_on, room_next}
 use Rattle.writer.proofs.lines.put_point.Goals as goal
+use Rattle.writer.proofs.lines.put_point.Goals.{After-z}
 
--- there is room for the numbers that are written, since they are those of the point
-room : (at : ℕ) (p q : SolidRecord) (buf : List ℕ) → q ≡ p → Room at (point_text p) buf → Room at (point_text q) buf
-room at p q buf e r = subst (λ x. Room at (point_text x) buf) (sym e) r
+-- a number that is handed over comes out of its bits again
+abbrev through : ℤ → ℤ
+through z = to_z w32 (of_z w32 z)
 
-pub put_signed-x-requires : goal.put_signed-x-requires
-put_signed-x-requires c =
-    let f : SFits w32 c.meaning-q.result.x = search rules in
-    room_same _ f (first_room _ (room _ _ _ _ c.meaning-q.ensures c.requires))
+abbrev spell : ℤ → ℤ → ℤ → List ℕ
+spell x y z = signed_decimal x ++ (blank ++ (signed_decimal y ++ (blank ++ (signed_decimal z ++ line_end))))
 
-pub put_byte-xb-requires : goal.put_byte-xb-requires
-put_byte-xb-requires c =
-    let f : SFits w32 c.meaning-q.result.x = search rules in
-    first_room _ (next_room (put_same _ f c.put_signed-x.ensures) (room _ _ _ _ c.meaning-q.ensures c.requires))
+spelled : (r : SolidRecord) (p : SolidPoint) (x y z : ℤ) → p ≡ meant_by r → through x ≡ p.x → through y ≡ p.y → through z ≡ p.z →
+    point_text (meant r) ≡ spell (through x) (through y) (through z)
+spelled r p x y z e a b c =
+    ap (λ (q : SolidPoint). spell q.x q.y q.z) (sym e)
+    ∙ ap (λ t. spell t p.y p.z) (sym a) ∙ ap (λ t. spell (through x) t p.z) (sym b) ∙ ap (spell (through x) (through y)) (sym c)
 
-pub put_signed-y-requires : goal.put_signed-y-requires
-put_signed-y-requires c =
-    let f : SFits w32 c.meaning-q.result.x = search rules in
-    let g : SFits w32 c.meaning-q.result.y = search rules in
-    room_same _ g (first_room _ (next_room c.put_byte-xb.ensures (next_room (put_same _ f c.put_signed-x.ensures) (room _ _ _ _ c.meaning-q.ensures c.requires))))
+text : (c : After-z) → point_text (meant c.args.stored.now) ≡ spell (through c.x.result) (through c.y.result) (through c.z.result)
+text c =
+    let f : SFits w32 c.x.result = search rules in
+    let g : SFits w32 c.y.result = search rules in
+    let h : SFits w32 c.z.result = search rules in
+    spelled c.args.stored.now c.load-point.result c.x.result c.y.result c.z.result c.load-point.ensures
+    (to_z-of_z w32 c.x.result f ∙ c.x.ensures) (to_z-of_z w32 c.y.result g ∙ c.y.ensures) (to_z-of_z w32 c.z.result h ∙ c.z.ensures)
 
-pub put_byte-yb-requires : goal.put_byte-yb-requires
-put_byte-yb-requires c =
-    let f : SFits w32 c.meaning-q.result.x = search rules in
-    let g : SFits w32 c.meaning-q.result.y = search rules in
-    first_room _ (next_room (put_same _ g c.put_signed-y.ensures) (next_room c.put_byte-xb.ensures (next_room (put_same _ f c.put_signed-x.ensures) (room _ _ _ _ c.meaning-q.ensures c.requires))))
+last : (c : After-z) → HasRoom (signed_decimal (through c.z.result) ++ line_end) c.byte-2.new.self
+last c =
+    let r : HasRoom (spell (through c.x.result) (through c.y.result) (through c.z.result)) c.args.page.now =
+    subst (λ w. HasRoom w c.args.page.now) (text c) c.requires in
+    room_next c.byte-2.ensures (room_next c.signed-2.ensures (room_next c.byte.ensures (room_next c.signed.ensures r)))
 
-pub put_signed-z-requires : goal.put_signed-z-requires
-put_signed-z-requires c =
-    let f : SFits w32 c.meaning-q.result.x = search rules in
-    let g : SFits w32 c.meaning-q.result.y = search rules in
-    let h : SFits w32 c.meaning-q.result.z = search rules in
-    room_same _ h (first_room _ (next_room c.put_byte-yb.ensures (next_room (put_same _ g c.put_signed-y.ensures) (next_room c.put_byte-xb.ensures (next_room (put_same _ f c.put_signed-x.ensures) (room _ _ _ _ c.meaning-q.ensures c.requires))))))
+pub signed-requires-3 : goal.signed-requires-3
+signed-requires-3 c = first_room _ (last (goal.at.signed-requires-3 c).After-z)
 
-pub put_byte-requires : goal.put_byte-requires
-put_byte-requires c =
-    let f : SFits w32 c.meaning-q.result.x = search rules in
-    let g : SFits w32 c.meaning-q.result.y = search rules in
-    let h : SFits w32 c.meaning-q.result.z = search rules in
-    next_room (put_same _ h c.put_signed-z.ensures) (next_room c.put_byte-yb.ensures (next_room (put_same _ g c.put_signed-y.ensures) (next_room c.put_byte-xb.ensures (next_room (put_same _ f c.put_signed-x.ensures) (room _ _ _ _ c.meaning-q.ensures c.requires)))))
+pub byte-requires-3 : goal.byte-requires-3
+byte-requires-3 c = room_next c.signed-3.ensures (last (goal.at.byte-requires-3 c).After-z)
 
 pub returns : goal.returns
 returns c =
-    let f : SFits w32 c.meaning-q.result.x = search rules in
-    let g : SFits w32 c.meaning-q.result.y = search rules in
-    let h : SFits w32 c.meaning-q.result.z = search rules in
-    subst (λ x. Put c.args.at c.put_byte.result (point_text x) c.args.buf.now c.put_byte.new.buf) c.meaning-q.ensures
-    (and_then (put_same _ f c.put_signed-x.ensures) (and_then c.put_byte-xb.ensures (and_then (put_same _ g c.put_signed-y.ensures) (and_then c.put_byte-yb.ensures (and_then (put_same _ h c.put_signed-z.ensures) c.put_byte.ensures)))))
+    subst (λ w. Grows w c.args.page.now c.byte-3.new.self) (sym (text (goal.at.returns c).After-z))
+    (grows_on c.signed.ensures (grows_on c.byte.ensures (grows_on c.signed-2.ensures (grows_on c.byte-2.ensures (grows_on c.signed-3.ensures c.byte-3.ensures)))))

@@ -1,21 +1,24 @@
 -- The mean of a sum that is not empty.
-use Rattle.std.proofs.Common.{◌≡◌, ℕ, ◌<◌, ◌≤◌, ℤ, sym, ap, ◌∙◌, arith, w32, w64, to_z, of_z}
-use Rattle.point.specs.Range.{full_count, InRange, Summed}
+use Rattle.std.proofs.Common.{◌≡◌, ℕ, ◌<◌, List, ℤ, pos, sym, ap, ◌∙◌, subst, arith, w32, to_z, of_z, rules}
+use Rattle.std.proofs.lemmas.List.{get_or-map}
+use Rattle.point.specs.Range.{InRange}
+use Rattle.point.specs.Points.{coordinate}
 use Rattle.point.specs.Solids.{half_up}
-use Rattle.point.proofs.Casts.{back32, back64}
 use Rattle.point.specs.SolidPoints.{three_same, mean_made, answer_nearest}
+use Rattle.point.specs.Rounding.{half_range}
+use Rattle.point.proofs.Casts.{back32}
+use Rattle.point.proofs.Columns.{found}
 use Rattle.point.proofs.solid.SolidSum.mean.Goals as goal
-
--- a coordinate of the mean, from bits and back
-one : (k : ℕ) (t m : ℤ) → k ≤ full_count → Summed k t → InRange m → m ≡ half_up k (to_z w64 (of_z w64 t)) → to_z w32 (of_z w32 m) ≡ half_up k t
-one k t m f s r e = back32 m r ∙ e ∙ ap (half_up k) (back64 k t f s)
 
 pub returns : goal.returns
 returns c =
     let s = c.args.self.now in
-    let h : 0 < s.count = omega arith in
-    let value = mean_made s _ h (three_same
-    (one s.count s.x c.nearest-x.result s.few s.ok.0 c.nearest-x.ensures.range c.nearest-x.ensures.value)
-    (one s.count s.y c.nearest-y.result s.few s.ok.1 c.nearest-y.ensures.range c.nearest-y.ensures.value)
-    (one s.count s.z c.nearest-z.result s.few s.ok.2 c.nearest-z.ensures.range c.nearest-z.ensures.value)) in
-    record { value = value; nearest = λ p q. answer_nearest s p h (sym value ∙ q) }
+    let t = s.tally in
+    let h = c.in_ok-columns.ensures in
+    let e = found t.count t.totals c.in_ok-columns.columns h.1 half_up c.map.result (sym t.long) c.map.ensures.items (λ x r p q k. search rules) in
+    let at : (i : ℕ) → i < 3 → to_z w32 (of_z w32 (coordinate c.map.result i)) ≡ half_up t.count (coordinate t.totals i) = λ i l.
+    let v = ap (λ (zs : List ℤ). coordinate zs i) e ∙ get_or-map (half_up t.count) t.totals i (pos 0) (pos 0) (rw t.long l) in
+    back32 (coordinate c.map.result i) (subst InRange (sym v) (half_range t.count h.0 (coordinate t.totals i) (t.ok i))) ∙ v
+    in
+    let value = mean_made s _ h.0 (three_same (at 0 (omega arith)) (at 1 (omega arith)) (at 2 (omega arith))) in
+    record { value = value; nearest = λ p q. answer_nearest s p h.0 (sym value ∙ q) }

@@ -74,23 +74,23 @@ fits g c =
     let h : c.args.h < (level s.count s.bits m).n = omega (arith, c.size.ensures, c.if-h-size.false) in
     omega (arith, act_below (level s.count s.bits m) L c.args.way c.args.h h, L.few)
 
-pub up-init : goal.up-init
-up-init g c = (c.down.invariant.0, refl)
+pub loop-k-init : goal.loop-k-init
+loop-k-init g c = (omega arith, c.down.invariant.0, refl)
 
 pub overflow_mul-x : goal.overflow_mul-x
 overflow_mul-x g c =
     let j = (goal.at.overflow_mul-x g c).Joined-i-eq0 in
-    omega (arith, up_bound _ _ _ _ _ c.up-test.true (c.up.invariant.1 ∙ led g j), fits g j)
+    omega (arith, up_bound _ _ _ _ _ c.loop-k-test.true (c.loop-k.invariant.2 ∙ led g j), fits g j)
 
 pub overflow_add-x : goal.overflow_add-x
 overflow_add-x g c =
     let j = (goal.at.overflow_add-x g c).Joined-i-eq0 in
-    omega (arith, up_bound _ _ _ _ _ c.up-test.true (c.up.invariant.1 ∙ led g j), fits g j)
+    omega (arith, up_bound _ _ _ _ _ c.loop-k-test.true (c.loop-k.invariant.2 ∙ led g j), fits g j)
 
-pub up-preserved : goal.up-preserved
-up-preserved g c = (omega arith, sym (up_step _ _ _ _ c.up-test.true) ∙ c.up.invariant.1)
+pub loop-k-preserved : goal.loop-k-preserved
+loop-k-preserved g c = (omega arith, omega arith, sym (up_step _ _ _ _ c.loop-k-test.true) ∙ c.loop-k.invariant.2)
 
 pub returns : goal.returns
 returns g c =
     answers _ _ _ _ (omega (arith, c.size.ensures, c.if-h-size.false))
-    (sym (top _ _ _ _ c.up-test.false) ∙ c.up.invariant.1 ∙ led g (goal.at.returns g c).Joined-i-eq0)
+    (sym (top _ _ _ _ c.loop-k-test.false) ∙ c.loop-k.invariant.2 ∙ led g (goal.at.returns g c).Joined-i-eq0)

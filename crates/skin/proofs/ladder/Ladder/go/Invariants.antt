@@ -16,10 +16,6 @@ abbrev pub decreases-down : goal.decreases-down
 decreases-down g l = l.i
 
 -- and they lead up to it from each level
-abbrev pub invariant-up : goal.invariant-up
-invariant-up g l =
-    (l.i ≤ l.self.count)
-    × (climb l.digits l.i (l.self.count - l.i) l.x ≡ climb l.digits l.initial.i (l.self.count - l.initial.i) l.initial.x)
-
-abbrev pub decreases-up : goal.decreases-up
-decreases-up g l = l.self.count - l.i
+abbrev pub invariant-loop-k : goal.invariant-loop-k
+invariant-loop-k g l =
+    (l.i ≤ l.k) × (l.k ≤ l.self.count) × (climb l.digits l.k (l.self.count - l.k) l.x ≡ climb l.digits l.i (l.self.count - l.i) l.initial.x)

@@ -1,10 +1,7 @@
-use Rattle.std.proofs.Common.{◌≡◌, ◌-◌, ◌≤◌}
+use Rattle.std.proofs.Common.{◌≡◌}
 use Rattle.mesh.specs.Rungs.{level}
 use Rattle.skin.specs.Skins.{mesh}
 use Rattle.skin.proofs.ladder.Ladder.size.Given as goal
 
 abbrev pub invariant-loop-i : goal.invariant-loop-i
-invariant-loop-i g l = (l.i ≤ l.self.count) × (l.n ≡ (level l.i l.self.bits (mesh g.S.Skin l.self.base)).n)
-
-abbrev pub decreases-loop-i : goal.decreases-loop-i
-decreases-loop-i g l = l.self.count - l.i
+invariant-loop-i g l = l.n ≡ (level l._i l.self.bits (mesh g.S.Skin l.self.base)).n

@@ -1,24 +1,18 @@
--- A sum with one row more.
-use Rattle.std.proofs.Common.{ℕ, ◌+◌, ◌≤◌, List, length, ℤ, sym, refl, ap, ◌∙◌, subst, arith}
-use borrow.Author.Tests.{lt-true}
-use Rattle.point.specs.Range.{full_count, Summed}
-use Rattle.point.specs.Points.{coordinate, total}
-use Rattle.point.proofs.RowSteps.{sum_long, sum_within, sum_whole}
+-- A sum with one row more keeps its total, and so does a full one.
+use Rattle.std.proofs.Common.{◌≡◌, ℕ, ◌+◌, Bool, true, false, cond, List, length, ℤ, pos, ◌*ℤ◌, sym, ap, ◌∙◌}
+use Rattle.std.specs.Prelude.{is_ok}
+use Rattle.point.specs.Points.{total, one_more}
+use Rattle.point.specs.Dealing.{handle_count, row_whole}
+use Rattle.point.proofs.RowSteps.{sum_whole}
 use Rattle.point.proofs.row.kind.PullPointKind.add.Goals as goal
+
+grown : (b : Bool) (n n' : ℕ) (ts ts' ws : List ℤ) → length ts ≡ handle_count → length ws ≡ handle_count → total ts ≡ pos n *ℤ row_whole → total ws ≡ row_whole
+    → n' ≡ cond b (n + 1) n → ts' ≡ cond b (one_more handle_count ts ws) ts → total ts' ≡ pos n' *ℤ row_whole
+grown true n n' ts ts' ws l m e f p q = ap total q ∙ sum_whole n ts ws l m e f ∙ ap (λ k. pos k *ℤ row_whole) (sym p)
+grown false n n' ts ts' ws l m e f p q = ap total q ∙ e ∙ ap (λ k. pos k *ℤ row_whole) (sym p)
 
 pub invariant_of-sum : goal.invariant_of-sum
 invariant_of-sum c =
     let s = c.args.sum.now in
     let p = c.args.point.now in
-    let n = s.count in
-    let e = c.added-totals.ensures in
-    let f : n + 1 ≤ full_count = omega arith in
-    record {
-      few = f;
-      long = ap length e ∙ sum_long s.totals p.weights;
-      ok = subst (λ (ts : List ℤ). (i : ℕ) → Summed (n + 1) (coordinate ts i)) (sym e) (sum_within n s.totals p.weights s.ok p.ok);
-      whole = ap total e ∙ sum_whole n s.totals p.weights s.long p.long s.whole p.whole;
-    }
-
-pub returns : goal.returns
-returns c = record { answer = lt-true _ _ c.if-sum-ge-FULL.false; count = refl; sums = c.added-totals.ensures }
+    record { whole = grown (is_ok c.add.result) s.tally.count _ s.tally.totals _ p.weights s.tally.long p.long s.whole p.whole c.add.ensures.count c.add.ensures.totals }

@@ -1,7 +1,0 @@
-use Rattle.std.proofs.Common.{◌≡◌, None}
-use Rattle.mesh.specs.Smallest.{smallest}
-use Rattle.mesh.specs.Tables.{tables, torn}
-use Rattle.skin.proofs.table.scan.first_torn.Given as goal
-
-abbrev pub invariant-loop-h : goal.invariant-loop-h
-invariant-loop-h l = smallest l.h (torn (tables l.n l.next l.prev l.twin)) ≡ None

@@ -19,10 +19,9 @@ fn bytes_of(rt: &HostRuntime, name: &str) -> anyhow::Result<Vec<u8>> {
     Ok(fs::read(rt, name)?)
 }
 
-// Prints what is found in a file, or in standard input where the name is `-`.
-fn print_found(rt: &HostRuntime, name: &str) -> anyhow::Result<()> {
-    let text = bytes_of(rt, name)?;
-    rt.print(said(rt.alloc(), text.as_slice())?)?;
+// Prints what is found in a text.
+fn print_found(rt: &HostRuntime, text: &[u8]) -> anyhow::Result<()> {
+    rt.print(said(rt.alloc(), text)?)?;
     Ok(())
 }
 
@@ -30,11 +29,13 @@ fn print_found(rt: &HostRuntime, name: &str) -> anyhow::Result<()> {
 fn run(rt: &HostRuntime) -> anyhow::Result<()> {
     let mut names = env::args(rt)?.skip(1).peekable();
     if names.peek().is_none() {
-        return print_found(rt, "-");
+        return print_found(rt, &bytes_of(rt, "-")?);
     }
     for name in names {
+        // read first: of a file that cannot be read, not even the name is printed
+        let text = bytes_of(rt, name.as_str())?;
         println!(rt; "==> {name} <==")?;
-        print_found(rt, name.as_str())?;
+        print_found(rt, &text)?;
     }
     Ok(())
 }

@@ -1,9 +1,9 @@
 -- Meshes in which no dart is at fault keep the laws.
-use Rattle.std.proofs.Common.{◌≡◌, ℕ, ◌+◌, ◌<◌, ◌≤◌, false, not, ◌||◌, eqb, ltb, leb, ◌⊎◌, length, None, sym, refl, ap, ◌∙◌, ⊎_elim, arith}
+use Rattle.std.proofs.Common.{◌≡◌, ℕ, ◌+◌, ◌<◌, ◌≤◌, false, not, ◌||◌, eqb, ltb, leb, ◌⊎◌, List, length, None, sym, refl, ap, ◌∙◌, ⊎_elim, arith}
 use Rattle.std.proofs.lemmas.Bool.{or_parts, not-false, ltb-true, eqb-true, eqb-false, lt-ltb, leb-true, le-leb, eq-eqb, ne_eqb, cases_eq, cases_lt, lt-leb}
 use Rattle.mesh.specs.Mesh.{Mesh, Lawful, ring, turn}
 use Rattle.mesh.specs.Smallest.{smallest}
-use Rattle.mesh.specs.Tables.{outside, torn, long_ring, overlong, fault_of}
+use Rattle.mesh.specs.Tables.{tables, outside, torn, long_ring, overlong, fault_of}
 use Rattle.mesh.specs.Mesh.{times}
 use Rattle.mesh.proofs.Rings.{ring_bound, ring_back, ring_pos}
 use Rattle.mesh.proofs.Smallest.{else_none, none_below, none_from}
@@ -72,6 +72,10 @@ lawful_from_none m few e =
       faces_short = λ h l. (closed m b.1 h l).face;
       vertices_short = λ h l. (closed m b.1 h l).vertex;
     }
+
+pub empty_lawful : (a b c : List ℕ) → Lawful (tables 0 a b c)
+unfolding smallest
+empty_lawful a b c = lawful_from_none (tables 0 a b c) (omega arith) refl
 
 -- and tables that keep the laws have no dart at fault
 pub none_from_lawful : (m : Mesh) → Lawful m → fault_of m ≡ None

@@ -1,9 +1,10 @@
 -- Two meshes that mean the same: as many darts, and the same said of each.
 use Rattle.std.proofs.Common.{◌≡◌, ℕ, ◌+◌, ◌*◌, ◌<◌, ◌≤◌, Bool, true, false, cond, not, leb, length, sym, refl, ap, ◌∙◌, subst}
 use Rattle.mesh.specs.Mesh.{Mesh, Lawful, Same, ring, turn, dual, quad, flipped}
+use Rattle.mesh.specs.Rungs.{rung}
 use Rattle.mesh.proofs.Rings.{ring_agree}
 use Rattle.mesh.proofs.QuadLaws.{four, into, twin0, twin1, twin2, twin3}
-use Rattle.mesh.proofs.DualLaws.{dual_lawful}
+use Rattle.mesh.proofs.DualLaws.{turn_below, dual_lawful}
 
 pub same_refl : (m : Mesh) → Same m m
 same_refl m = record { n = refl; next = λ h b. refl; prev = λ h b. refl; twin = λ h b. refl }
@@ -71,6 +72,13 @@ module _ (a b : Mesh) (l : Lawful a) (s : Same a b) where
   -- the same rings
   pub same_face : (h : ℕ) → h < a.n → ring b.next h ≡ ring a.next h
   same_face = ring_agree a.n a.next b.next l.next_below (λ x k. sym (s.next x k))
+
+  pub same_vertex : (h : ℕ) → h < a.n → ring (turn b) h ≡ ring (turn a) h
+  same_vertex = ring_agree a.n (turn a) (turn b) (turn_below a l) (λ x k. sym (same_turn x k))
+
+pub same_rung : (b : Bool) (m k : Mesh) → Lawful m → Same m k → Same (rung b m) (rung b k)
+same_rung true m k l s = same_quad (dual m) (dual k) (dual_lawful m l) (same_dual m k l s)
+same_rung false m k l s = same_quad m k l s
 
 pub same_trans : {a b c : Mesh} → Same a b → Same b c → Same a c
 same_trans p q =

@@ -16,10 +16,9 @@ use point::row::{PullRecord, PullRow, ROW_TOTAL};
 use point::solid::kind::Solid;
 use point::solid::{SolidPoint, SolidRecord};
 use refusal::Refusal;
-use shapes::{TRIANGLE_STARTS, triangles};
+use shapes::{TRIANGLE_STARTS, fill, triangles};
 use show::{declined, show};
 use skin::table::TableSkin;
-use std::alloc::Global;
 use stop::Stop;
 use trial::{PLACES, Trial, whole};
 use workpiece::calls::open_and_run;
@@ -32,36 +31,46 @@ const SIDE: i32 = 12_288;
 const UP: i32 = 9_216;
 
 // Points in a plane, pulled up.
-fn solids(heap: Global) -> Result<Trial<Solid>, Stop> {
+fn with_solids(rt: &HostRuntime) -> Result<(), Stop> {
     let at = |x, y| SolidRecord { x, y, z: 0 };
-    Ok(Trial {
+    let vertices = [at(0, 0), at(SIDE, 0), at(0, SIDE), at(SIDE, SIDE)];
+    let trial = Trial::<Solid> {
         slack: 1,
-        vertices: [at(0, 0), at(SIDE, 0), at(0, SIDE), at(SIDE, SIDE)].to_vec(heap)?,
+        vertices: &vertices,
         to: SolidPoint::new(0, 0, UP).map_err(Refusal::from)?,
-    })
+    };
+    trial.run(rt, "solids", &mut [vertices[0]; PLACES])
 }
 
-// Each vertex moved by a handle of its own, pulled to the last handle.
-fn rows(heap: Global) -> Result<Trial<Pull>, Stop> {
+// Vertices that are each moved by a handle of their own.
+fn moved() -> [PullRecord; 4] {
     let moved_by = |weights| PullRecord { weights };
-    Ok(Trial {
+    [
+        moved_by([ROW_TOTAL, 0, 0, 0]),
+        moved_by([0, ROW_TOTAL, 0, 0]),
+        moved_by([0, 0, ROW_TOTAL, 0]),
+        moved_by([0, 0, 0, ROW_TOTAL]),
+    ]
+}
+
+// Such vertices, pulled to the last handle.
+fn with_rows(rt: &HostRuntime) -> Result<(), Stop> {
+    let vertices = moved();
+    let trial = Trial::<Pull> {
         slack: 2,
-        vertices: [
-            moved_by([ROW_TOTAL, 0, 0, 0]),
-            moved_by([0, ROW_TOTAL, 0, 0]),
-            moved_by([0, 0, ROW_TOTAL, 0]),
-            moved_by([0, 0, 0, ROW_TOTAL]),
-        ]
-        .to_vec(heap)?,
+        vertices: &vertices,
         to: PullRow::new([0, 0, 0, ROW_TOTAL]).map_err(Refusal::from)?,
-    })
+    };
+    trial.run(rt, "pull rows", &mut [vertices[0]; PLACES])
 }
 
 // The triangles opened and refined in one run: a split and one average.
 fn at_once(rt: &HostRuntime) -> Result<(), Stop> {
     println!(rt; "triangles, pull rows, one run")?;
     let skin = triangles().map_err(Refusal::from)?;
-    let mut table = rows(rt.alloc())?.table(rt.alloc(), &TRIANGLE_STARTS)?;
+    let vertices = moved();
+    let mut table = [vertices[0]; PLACES];
+    fill(&TRIANGLE_STARTS, &vertices, &mut table);
     let steps = [
         whole(Action::Count),
         whole(Action::Split),
@@ -92,14 +101,8 @@ fn told(rt: &HostRuntime, part: Result<(), Stop>) -> anyhow::Result<()> {
 }
 
 fn run(rt: &HostRuntime) -> anyhow::Result<()> {
-    told(
-        rt,
-        solids(rt.alloc()).and_then(|trial| trial.run(rt, "solids")),
-    )?;
-    told(
-        rt,
-        rows(rt.alloc()).and_then(|trial| trial.run(rt, "pull rows")),
-    )?;
+    told(rt, with_solids(rt))?;
+    told(rt, with_rows(rt))?;
     told(rt, at_once(rt))?;
     told(rt, written(rt))?;
     full_size(rt)

@@ -6,7 +6,6 @@ use point::kind::PointKind;
 use refusal::Refusal;
 use skin::skin::Skin;
 use skin::torus::Torus;
-use std::alloc::Global;
 use std::io;
 use workpiece::calls::may_open;
 use workpiece::piece::{Action, Step, Workpiece};
@@ -15,11 +14,11 @@ use workpiece::piece::{Action, Step, Workpiece};
 pub const PLACES: usize = 64;
 
 #[derive(Drop)]
-pub struct Trial<K: PointKind> {
+pub struct Trial<'a, K: PointKind> {
     // twice how far a mean of the kind may lie from the exact mean
     pub slack: u32,
     // the records of the vertices
-    pub vertices: Vec<K::Record>,
+    pub vertices: &'a [K::Record],
     // where the vertex of dart 0 is pulled
     pub to: K::Point,
 }
@@ -32,15 +31,16 @@ pub fn whole<P>(action: Action<P>) -> Step<P> {
     }
 }
 
-impl<K: PointKind> Trial<K> {
-    // The records of the darts of a skin, by the vertices that they start from.
-    pub fn table(&self, heap: Global, starts: &[usize]) -> Result<Vec<K::Record>, Stop> {
-        let mut table = Vec::new(heap);
+// (The table of points is lent, so that a trial needs no heap.)
+impl<K: PointKind> Trial<'_, K> {
+    // Gives each dart of a skin the record of the vertex that it starts from, and the first vertex's to the places that are left.
+    fn lay(&self, starts: &[usize], table: &mut [K::Record]) {
         if let Some(first) = self.vertices.first() {
-            table = vec![in heap; *first; PLACES]?;
+            for place in table.iter_mut() {
+                *place = *first;
+            }
         }
-        fill(starts, &self.vertices, &mut table);
-        Ok(table)
+        fill(starts, self.vertices, table);
     }
 
     // A split with three averages, a pull at dart 0 and one average more, with a look before and after, and two steps that are declined: for
@@ -76,11 +76,12 @@ impl<K: PointKind> Trial<K> {
         rt: &HostRuntime,
         skin: S,
         starts: &[usize],
+        table: &mut [K::Record],
     ) -> Result<(), Stop> {
-        let mut table = self.table(rt.alloc(), starts)?;
-        may_open::<S, K>(&skin, &table).map_err(Refusal::from)?;
+        self.lay(starts, table);
+        may_open::<S, K>(&skin, table).map_err(Refusal::from)?;
         let mut piece = Workpiece::open(skin);
-        self.pull(rt, &mut piece, &mut table)?;
+        self.pull(rt, &mut piece, table)?;
         let averages = piece.averages();
         let limit = self.slack.saturating_mul(averages);
         println!(rt; "deviation at most {limit} half units after {averages} averages")?;
@@ -88,12 +89,12 @@ impl<K: PointKind> Trial<K> {
     }
 
     // Over a torus and over two triangles.
-    pub fn run(&self, rt: &HostRuntime, name: &str) -> Result<(), Stop> {
+    pub fn run(&self, rt: &HostRuntime, name: &str, table: &mut [K::Record]) -> Result<(), Stop> {
         println!(rt; "torus, {name}")?;
         let torus = Torus::new(2, 2).map_err(Refusal::from)?;
-        self.refine(rt, torus, &TORUS_STARTS)?;
+        self.refine(rt, torus, &TORUS_STARTS, table)?;
         println!(rt; "triangles, {name}")?;
         let triangles = triangles().map_err(Refusal::from)?;
-        self.refine(rt, triangles, &TRIANGLE_STARTS)
+        self.refine(rt, triangles, &TRIANGLE_STARTS, table)
     }
 }

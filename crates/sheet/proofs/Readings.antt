@@ -1,7 +1,7 @@
 -- What reading a sheet means.
 use Rattle.std.proofs.Common.{◌≡◌, ℕ, ◌<◌, ◌≤◌, Bool, true, false, cond, ltb, List, ◌++◌, length, take, drop, Ok, Err, codes, Result, sym, refl, ap, ◌∙◌, subst, arith}
 use lib.ListN.{length-map}
-use Rattle.std.proofs.lemmas.Bool.{lt-ltb, le-ltb}
+use Rattle.std.proofs.lemmas.Bool.{lt-ltb, le-ltb, ltb-true, ltb-false}
 use Rattle.std.proofs.lemmas.List.{length-take}
 use Rattle.sheet.specs.declared.fault.TextFault.{TextFault}
 use Rattle.sheet.specs.declared.fault.TextFault.TheVariants as fault
@@ -11,7 +11,7 @@ use Rattle.sheet.specs.declared.record.Layout.{Layout}
 use Rattle.sheet.specs.Form.{Form, gives, token, judge, after, times, then, token_at, end_at, line_end}
 use Rattle.sheet.specs.Sheet.{Sheet, sheet, sheet_text, Ranged, corner_count, point_line, corner, face_line, header, closing_line, closed, faced}
 use Rattle.sheet.specs.Fill.{Says, FillsFaces}
-use Rattle.sheet.specs.Read.{Tables, tables, sizes, sized, holding, stored, settled, declined, read, Laid, SheetLaw, ReadsSheet}
+use Rattle.sheet.specs.Read.{Tables, tables, sizes, sized, holding, room_in, stored, settled, declined, read, Laid, SheetLaw, ReadsSheet}
 use Rattle.sheet.proofs.Forms.{judge_after, never, ok_is}
 use Rattle.sheet.proofs.Sound.{end_sound}
 use Rattle.sheet.proofs.Complete.{parted_sheet}
@@ -134,6 +134,15 @@ read_err text at t r e h j = told text at t r t (ap (λ x. (x, t)) h ∙ sym (ap
 pub read_as : (text : List ℕ) (at : ℕ) (t : Tables) (r s : Result Sizes TextFault) (u : Tables) → r ≡ s → ReadsSheet text at t s u → ReadsSheet text at t r u
 read_as text at t r s u e o = subst (λ x. ReadsSheet text at t x u) (sym e) o
 
+pub has_room : (t : Tables) (n : Sizes) → Ok tt ≡ room_in t n → (n.points ≤ length t.points) × (n.faces ≤ length t.lengths) × (n.corners ≤ length t.corners)
+has_room t n h = go (ltb (length t.points) n.points) (ltb (length t.lengths) n.faces) (ltb (length t.corners) n.corners) refl refl refl (sym h)
+  where
+    go : (a b c : Bool) → ltb (length t.points) n.points ≡ a → ltb (length t.lengths) n.faces ≡ b → ltb (length t.corners) n.corners ≡ c → ◌≡◌ {A = Result (Unit {0}) TextFault} (cond a (Err (fault.Short n.points)) (cond b (Err (fault.Short n.faces)) (cond c (Err (fault.Short n.corners)) (Ok tt)))) (Ok tt) → (n.points ≤ length t.points) × (n.faces ≤ length t.lengths) × (n.corners ≤ length t.corners)
+    go true b c p q r h = absurd (never _ _ h)
+    go false true c p q r h = absurd (never _ _ h)
+    go false false true p q r h = absurd (never _ _ h)
+    go false false false p q r h = (ltb-false _ _ p, ltb-false _ _ q, ltb-false _ _ r)
+
 module _ (text : List ℕ) (at : ℕ) (t : Tables) (l : Layout) (d : Laid text at l) where
   abbrev of : Sheet
   of = record { points = d.ps; faces = d.fs }
@@ -168,6 +177,18 @@ module _ (text : List ℕ) (at : ℕ) (t : Tables) (l : Layout) (d : Laid text a
       told text at t _ t (ap (λ n. (Err (fault.Short n), t)) corners_is
       ∙ sym (by_tests false false true (le-ltb (length t.points) (length d.ps) (omega (arith, points_is))) (le-ltb (length t.lengths) (length d.fs) (omega (arith, faces_is)))
       (lt-ltb (length t.corners) (corner_count d.fs) (omega (arith, corners_is)))))
+
+  pub read_short : (e : TextFault) → Err e ≡ room_in t l.sizes → ReadsSheet text at t (Err e) t
+  read_short e h = go (ltb (length t.points) l.sizes.points) (ltb (length t.lengths) l.sizes.faces) (ltb (length t.corners) l.sizes.corners) refl refl refl (sym h)
+    where
+      moved : {y : TextFault} → ◌≡◌ {A = Result (Unit {0}) TextFault} (Err y) (Err e) → ReadsSheet text at t (Err y) t → ReadsSheet text at t (Err e) t
+      moved q o = subst (λ x. ReadsSheet text at t (Err x) t) (err_is _ _ q) o
+
+      go : (a b c : Bool) → ltb (length t.points) l.sizes.points ≡ a → ltb (length t.lengths) l.sizes.faces ≡ b → ltb (length t.corners) l.sizes.corners ≡ c → ◌≡◌ {A = Result (Unit {0}) TextFault} (cond a (Err (fault.Short l.sizes.points)) (cond b (Err (fault.Short l.sizes.faces)) (cond c (Err (fault.Short l.sizes.corners)) (Ok tt)))) (Err e) → ReadsSheet text at t (Err e) t
+      go true b c p q r h = moved h (read_short_points (ltb-true _ _ p))
+      go false true c p q r h = moved h (read_short_lengths (ltb-false _ _ p) (ltb-true _ _ q))
+      go false false true p q r h = moved h (read_short_corners (ltb-false _ _ p) (ltb-false _ _ q) (ltb-true _ _ r))
+      go false false false p q r h = absurd (never _ _ (sym h))
 
   -- in tables with room for it, the sheet is what the places for its points and lengths take
   module _ (g : l.sizes.points ≤ length t.points) (h : l.sizes.faces ≤ length t.lengths) (k : l.sizes.corners ≤ length t.corners) where

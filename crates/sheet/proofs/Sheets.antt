@@ -1,13 +1,15 @@
 -- The lines of a sheet, one after another.
-use Rattle.std.proofs.Common.{◌≡◌, ℕ, ◌+◌, ◌≤◌, List, ◌∷◌, length, Ok, Err, codes, Result, sym, refl, ap, ◌∙◌, subst, arith, length-append}
+use Rattle.std.proofs.Common.{◌≡◌, ℕ, ◌+◌, ◌<◌, ◌≤◌, List, ◌∷◌, length, Ok, Err, codes, Result, sym, refl, ap, ◌∙◌, subst, arith, length-append}
 use Rattle.sheet.specs.declared.fault.TextFault.{TextFault}
 use Rattle.point.specs.declared.solid.SolidRecord.{SolidRecord}
 use Rattle.sheet.specs.declared.record.Layout.{Layout}
-use Rattle.sheet.specs.Form.{gives, token, judge, after, times, then, place_of, viewed, token_at, natural_at, line_end}
+use Rattle.sheet.specs.Form.{gives, token, natural, judge, after, times, then, place_of, viewed, token_at, natural_at, line_end}
+use Rattle.sheet.proofs.Grammar.{Spelled, s_token, s_natural, s_gives}
 use Rattle.sheet.specs.Sheet.{Sheet, sheet, point_line, corner, face_line, header, closing_line, closed, faced, corners_of, corner_count}
 use Rattle.sheet.specs.Fill.{Says}
 use Rattle.sheet.specs.Read.{Laid, Judged}
 use Rattle.sheet.proofs.Forms.{judge_after, then_cong, never, ok_is, times_length, placed_ok, placed_err, viewed_ok, viewed_err}
+use Rattle.sheet.proofs.Sound.{sound}
 
 -- a face line, by its number and its corners
 module _ (text : List ℕ) (at k p : ℕ) (num : natural_at 1 64 text at ≡ Ok (k, p)) where
@@ -46,6 +48,20 @@ face_split text at k p num vs q e = go (judge (times k corner) text p) refl (sym
     go : (x : Result (List ℕ × ℕ) TextFault) → judge (times k corner) text p ≡ x → then {B = List ℕ × ℕ} x (λ r. then (token_at line_end text r.1) (λ q. Ok (r.0, q))) ≡ Ok (vs, q) → (p₂ : ℕ) × (judge (times k corner) text p ≡ Ok (vs, p₂)) × (token_at line_end text p₂ ≡ Ok q) × (length vs ≡ k)
     go (Ok r) h e = go₂ r (token_at line_end text r.1) refl h e
     go (Err x) h e = absurd (never _ _ e)
+
+-- numbers lie in their range
+natural_in : {low high n : ℕ} {bs : List ℕ} → Spelled (natural low high (λ v. gives v)) n bs → (low ≤ n) × (n ≤ high)
+natural_in (s_natural n l h s_gives) = (l, h)
+
+pub natural_bound : (low high : ℕ) → high < 4294967295 → (text : List ℕ) (p n q : ℕ) → natural_at low high text p ≡ Ok (n, q) → (low ≤ n) × (n ≤ high)
+natural_bound low high s text p n q e =
+    natural_in (sound (natural low high (λ v. gives v)) (s, λ v. tt) text p n q (ap (λ x. then x (λ r. Ok (r.0, r.1))) e)).spelled
+
+header_in : {w : List ℕ} {n : ℕ} {bs : List ℕ} → Spelled (header w) n bs → n ≤ 1048576
+header_in (s_token (s_token (s_natural n l h (s_token s_gives)))) = h
+
+pub header_bound : (w text : List ℕ) (p n q : ℕ) → judge (header w) text p ≡ Ok (n, q) → n ≤ 1048576
+header_bound w text p n q e = header_in (sound (header w) (omega arith, λ v. tt) text p n q e).spelled
 
 -- a table with room for the corners of a face's line has as many places as the line's number says
 pub face_room : (text : List ℕ) (at k p : ℕ) → natural_at 1 64 text at ≡ Ok (k, p) → (m : ℕ) → Says face_line text at (λ vs. length vs ≤ m) → k ≤ m

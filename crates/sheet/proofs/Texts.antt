@@ -54,3 +54,6 @@ module _ {A : Type 0} (f : Form A) (tx : A → List ℕ) (In : A → Type 0)
   off_form text at p h =
       let w = first_wrong f parted fillable text at (fault.Form p) h in
       (wrong_at text at (fault.Form p) w, λ a rest i g l. w.sort a rest (subst (λ x. Spelled f a x) g (every a i)) l)
+
+  pub never_short : (text : List ℕ) (at n : ℕ) → judge f text at ≡ Err (fault.Short n) → ⊥
+  never_short text at n h = (first_wrong f parted fillable text at (fault.Short n) h).sort

@@ -39,6 +39,13 @@ sized (Err e) = Err e
 abbrev pub holding : Sheet → Tables → Tables
 holding s t = tables (over s.points t.points) (over (map length s.faces) t.lengths) (over (corners_of s.faces) t.corners)
 
+-- whether tables have room for a sheet of some sizes: else the places that the first one too short should have
+abbrev pub room_in : Tables → Sizes → Result (Unit {0}) TextFault
+room_in t n =
+    cond (nat_lt (length t.points) n.points) (Err (fault.Short n.points))
+    (cond (nat_lt (length t.lengths) n.faces) (Err (fault.Short n.faces))
+    (cond (nat_lt (length t.corners) n.corners) (Err (fault.Short n.corners)) (Ok tt)))
+
 abbrev pub declined : TextFault → Tables → Result Sizes TextFault × Tables
 declined e t = (Err e, t)
 

@@ -1,10 +1,20 @@
 // Number tokens: from bytes to numbers.
-ghost use Rattle.std.specs.Prelude.{◌≡◌};
+ghost use Rattle.std.specs.Prelude.{◌≡◌, ◌+◌, ◌*◌, ◌-◌, ◌^◌, min};
 ghost use Rattle.sheet.specs.Number.{digits_read, capped, natural, coordinate_of, natural_of};
 
 use crate::fault::TextFault;
 use crate::token::Token;
 use point::range::LIMIT;
+
+// A number with one decimal digit more, or the largest u64 where it is more. (By two saturating steps a long numeral takes half as long again.)
+fn with_digit(value: u64, digit: u8) -> u64
+    ensures { result ≡ min (value * 10 + digit) (2 ^ 64 - 1) }
+{
+    match value.checked_mul(10) {
+        Some(tens) => tens.saturating_add(u64::from(digit)),
+        None => u64::MAX,
+    }
+}
 
 // The number that digits write, or the largest u64 where it is more; none where a byte is no digit.
 // The library's `parse` does not tell a number past its type from one that is not well formed.
@@ -16,9 +26,7 @@ fn digits(bytes: &[u8]) -> Option<u64>
         if !b.is_ascii_digit() {
             return None;
         }
-        value = value
-            .saturating_mul(10)
-            .saturating_add(u64::from(*b - b'0'));
+        value = with_digit(value, *b - b'0');
     }
     Some(value)
 }

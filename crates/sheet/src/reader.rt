@@ -20,7 +20,8 @@ pub struct Reader<'a> {
 }
 
 impl Reader<'_> {
-    // The token `word`, which is not empty.
+    // The token `word`, which is not empty. (The words are known where it is called: without the hint judging a sheet takes a third longer.)
+    #[inline(always)]
     pub fn expect(&mut self, word: &[u8]) -> Result<(), TextFault>
         requires { 0 < length word.now }
         ensures { Moves (token_at word.now) self.old result self.new }

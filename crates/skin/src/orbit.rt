@@ -32,7 +32,8 @@ pub fn orbit<'a, S: Skin>(skin: &'a S, ring: Ring, h: u32) -> Darts<'a, S>
 }
 
 impl<'a, S: Skin> Darts<'a, S> {
-    // The dart that comes next.
+    // The dart that comes next. (Built into its callers, as `next` is: else an average takes a seventh longer.)
+    #[inline(always)]
     fn coming(&self) -> Option<u32>
         ensures { First (S.Skin.n self.now.skin.now) (along self.now.ring (mesh S.Skin self.now.skin.now)) self.now.first self.now.last result }
     {
@@ -51,6 +52,7 @@ impl<'a, S: Skin> Iterator for Darts<'a, S> {
 
     ghost remaining = { item_count (λ s. to_come (S.Skin.n s.skin.now) (along s.ring (mesh S.Skin s.skin.now)) s.first s.last) };
 
+    #[inline(always)]
     fn next(&mut self) -> Option<u32> {
         let d = self.coming()?;
         self.last = Some(d);

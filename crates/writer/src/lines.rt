@@ -28,11 +28,12 @@ fn put_point(page: &mut Page, stored: &SolidRecord)
     ensures { Grows (point_text (meant stored.now)) page.old page.new }
 {
     let point = Solid::load(stored);
-    page.signed(point.x());
+    let (x, y, z) = (point.x(), point.y(), point.z());
+    page.signed(x);
     page.byte(b' ');
-    page.signed(point.y());
+    page.signed(y);
     page.byte(b' ');
-    page.signed(point.z());
+    page.signed(z);
     page.byte(b'\n');
 }
 

@@ -11,7 +11,7 @@ use Rattle.writer.specs.Points.{meant}
 use Rattle.writer.proofs.Writes.{first_room}
 use Rattle.writer.proofs.Pages.{grows_on, room_next}
 use Rattle.writer.proofs.lines.put_point.Goals as goal
-use Rattle.writer.proofs.lines.put_point.Goals.{After-z}
+use Rattle.writer.proofs.lines.put_point.Goals.{After-z-z, After-byte-2}
 
 -- a number that is handed over comes out of its bits again
 abbrev through : ℤ → ℤ
@@ -26,27 +26,28 @@ spelled r p x y z e a b c =
     ap (λ (q : SolidPoint). spell q.x q.y q.z) (sym e)
     ∙ ap (λ t. spell t p.y p.z) (sym a) ∙ ap (λ t. spell (through x) t p.z) (sym b) ∙ ap (spell (through x) (through y)) (sym c)
 
-text : (c : After-z) → point_text (meant c.args.stored.now) ≡ spell (through c.x.result) (through c.y.result) (through c.z.result)
+text : (c : After-z-z) → point_text (meant c.args.stored.now) ≡ spell (through c.x-x.result) (through c.y-y.result) (through c.z-z.result)
 text c =
-    let f : SFits w32 c.x.result = search rules in
-    let g : SFits w32 c.y.result = search rules in
-    let h : SFits w32 c.z.result = search rules in
-    spelled c.args.stored.now c.load-point.result c.x.result c.y.result c.z.result c.load-point.ensures
-    (to_z-of_z w32 c.x.result f ∙ c.x.ensures) (to_z-of_z w32 c.y.result g ∙ c.y.ensures) (to_z-of_z w32 c.z.result h ∙ c.z.ensures)
+    let f : SFits w32 c.x-x.result = search rules in
+    let g : SFits w32 c.y-y.result = search rules in
+    let h : SFits w32 c.z-z.result = search rules in
+    spelled c.args.stored.now c.load-point.result c.x-x.result c.y-y.result c.z-z.result c.load-point.ensures
+    (to_z-of_z w32 c.x-x.result f ∙ c.x-x.ensures) (to_z-of_z w32 c.y-y.result g ∙ c.y-y.ensures) (to_z-of_z w32 c.z-z.result h ∙ c.z-z.ensures)
 
-last : (c : After-z) → HasRoom (signed_decimal (through c.z.result) ++ line_end) c.byte-2.new.self
-last c =
-    let r : HasRoom (spell (through c.x.result) (through c.y.result) (through c.z.result)) c.args.page.now =
-    subst (λ w. HasRoom w c.args.page.now) (text c) c.requires in
+last : (c : After-byte-2) → point_text (meant c.args.stored.now) ≡ spell (through c.x-x.result) (through c.y-y.result) (through c.z-z.result) →
+    HasRoom (signed_decimal (through c.z-z.result) ++ line_end) c.byte-2.new.self
+last c t =
+    let r : HasRoom (spell (through c.x-x.result) (through c.y-y.result) (through c.z-z.result)) c.args.page.now =
+    subst (λ w. HasRoom w c.args.page.now) t c.requires in
     room_next c.byte-2.ensures (room_next c.signed-2.ensures (room_next c.byte.ensures (room_next c.signed.ensures r)))
 
 pub signed-requires-3 : goal.signed-requires-3
-signed-requires-3 c = first_room _ (last (goal.at.signed-requires-3 c).After-z)
+signed-requires-3 c = first_room _ (last (goal.at.signed-requires-3 c).After-byte-2 (text (goal.at.signed-requires-3 c).After-z-z))
 
 pub byte-requires-3 : goal.byte-requires-3
-byte-requires-3 c = room_next c.signed-3.ensures (last (goal.at.byte-requires-3 c).After-z)
+byte-requires-3 c = room_next c.signed-3.ensures (last (goal.at.byte-requires-3 c).After-byte-2 (text (goal.at.byte-requires-3 c).After-z-z))
 
 pub returns : goal.returns
 returns c =
-    subst (λ w. Grows w c.args.page.now c.byte-3.new.self) (sym (text (goal.at.returns c).After-z))
+    subst (λ w. Grows w c.args.page.now c.byte-3.new.self) (sym (text (goal.at.returns c).After-z-z))
     (grows_on c.signed.ensures (grows_on c.byte.ensures (grows_on c.signed-2.ensures (grows_on c.byte-2.ensures (grows_on c.signed-3.ensures c.byte-3.ensures)))))

@@ -1,8 +1,7 @@
 -- A sheet that was read into tables of its sizes, as closing takes it.
-use Rattle.std.proofs.Common.{◌≡◌, ℕ, ◌≤◌, min, List, ◌++◌, map, length, is_ok, Ok, Err, Result, sym, refl, ap, ◌∙◌, subst, append-nil, arith}
+use Rattle.std.proofs.Common.{◌≡◌, ℕ, ◌≤◌, min, List, ◌++◌, map, length, Ok, Err, Result, sym, refl, ap, ◌∙◌, subst, append-nil, arith}
 use lib.ListN.{length-map}
 use Rattle.std.proofs.lemmas.List.{drop_all}
-use Rattle.std.proofs.lemmas.Bool.{le-ltb}
 use Rattle.mesh.specs.Mesh.{Same}
 use Rattle.skin.specs.declared.count.Counts.{Counts}
 use Rattle.skin.specs.Meaning.{meaning}
@@ -13,8 +12,9 @@ use Rattle.sheet.specs.declared.record.Sizes.{Sizes}
 use Rattle.sheet.specs.Form.{judge}
 use Rattle.sheet.specs.Sheet as text
 use Rattle.sheet.specs.Fill.{over}
-use Rattle.sheet.specs.Read.{Tables, sizes, sized, stored, settled, holding, ReadsSheet}
+use Rattle.sheet.specs.Read.{Tables, sizes, sized, settled, holding, ReadsSheet}
 use Rattle.sheet.proofs.Forms.{never, ok_is}
+use Rattle.sheet.proofs.Readings.{stored_room}
 use Rattle.closing.specs.declared.fault.SkinFault.{SkinFault}
 use Rattle.closing.specs.Sheet.{Sheet, sheet, mesh}
 use Rattle.closing.specs.Drawing.{drawn}
@@ -33,13 +33,6 @@ judged n (Err x) e = absurd (never _ _ e)
 over_all : {A : Type 0} (xs was : List A) → length was ≡ length xs → over xs was ≡ xs
 over_all xs was e = ap (λ d. xs ++ d) (drop_all (length xs) was (omega arith)) ∙ append-nil xs
 
-room : (s : text.Sheet) (t : Tables) → length t.points ≡ length s.points → length t.lengths ≡ length s.faces → length t.corners ≡ text.corner_count s.faces → ◌≡◌ {A = Result Sizes TextFault × Tables} (stored s t) (Ok (sizes s), holding s t)
-room s t p f c =
-    let a = le-ltb (length t.points) (length s.points) (omega arith) in
-    let b = le-ltb (length t.lengths) (length s.faces) (omega arith) in
-    let d = le-ltb (length t.corners) (text.corner_count s.faces) (omega arith) in
-    rw (a, b, d)
-
 module _ (bytes : List ℕ) (n : Sizes) (t u : Tables) (r : Result Sizes TextFault)
     (h : sized (judge text.sheet bytes 0) ≡ Ok n) (o : ReadsSheet bytes 0 t r u)
     (p : length t.points ≡ n.points) (f : length t.lengths ≡ n.faces) (c : length t.corners ≡ n.corners) where
@@ -55,7 +48,7 @@ module _ (bytes : List ℕ) (n : Sizes) (t u : Tables) (r : Result Sizes TextFau
   outcome : ◌≡◌ {A = Result Sizes TextFault × Tables} (r, u) (Ok (sizes read), holding read t)
   outcome =
       o.outcome ∙ ap (λ x. settled x t) found.1
-      ∙ room read t (p ∙ ap (λ z. z.points) sizes_are) (f ∙ ap (λ z. z.faces) sizes_are) (c ∙ ap (λ z. z.corners) sizes_are)
+      ∙ stored_room read t (omega (arith, p, ap (λ z. z.points) sizes_are)) (omega (arith, f, ap (λ z. z.faces) sizes_are)) (omega (arith, c, ap (λ z. z.corners) sizes_are))
 
   pub answers : r ≡ Ok n
   answers = ap (λ x. x.0) outcome ∙ ap (λ z. Ok z) (sym sizes_are)

@@ -1,7 +1,7 @@
 -- What reading a sheet means.
 use Rattle.std.proofs.Common.{◌≡◌, ℕ, ◌<◌, ◌≤◌, Bool, true, false, cond, ltb, List, ◌++◌, length, take, drop, Ok, Err, codes, Result, sym, refl, ap, ◌∙◌, subst, arith}
 use lib.ListN.{length-map}
-use Rattle.std.proofs.lemmas.Bool.{lt-ltb, le-ltb, ltb-true, ltb-false}
+use Rattle.std.proofs.lemmas.Bool.{lt-ltb, le-ltb, ltb-false}
 use Rattle.std.proofs.lemmas.List.{length-take}
 use Rattle.sheet.specs.declared.fault.TextFault.{TextFault}
 use Rattle.sheet.specs.declared.fault.TextFault.TheVariants as fault
@@ -11,7 +11,7 @@ use Rattle.sheet.specs.declared.record.Layout.{Layout}
 use Rattle.sheet.specs.Form.{Form, gives, token, judge, after, times, then, token_at, end_at, line_end}
 use Rattle.sheet.specs.Sheet.{Sheet, sheet, sheet_text, Ranged, corner_count, point_line, corner, face_line, header, closing_line, closed, faced}
 use Rattle.sheet.specs.Fill.{Says, FillsFaces}
-use Rattle.sheet.specs.Read.{Tables, tables, sizes, sized, holding, room_in, stored, settled, declined, read, Laid, SheetLaw, ReadsSheet}
+use Rattle.sheet.specs.Read.{Tables, tables, sizes, sized, holding, room_in, if_room, stored, settled, read, Laid, SheetLaw, ReadsSheet}
 use Rattle.sheet.proofs.Forms.{judge_after, never, ok_is}
 use Rattle.sheet.proofs.Sound.{end_sound}
 use Rattle.sheet.proofs.Complete.{parted_sheet}
@@ -49,28 +49,50 @@ sheet_ends text p s q e =
     let d = after_ok (times c.0 face_line) (closed b.0) text c.1 s q c.2 in
     closing_ends (record { points = b.0; faces = d.0 }) text d.1 s q d.2
 
--- what was stored, by the three tests
-abbrev pick : Sheet → Tables → Bool → Bool → Bool → Result Sizes TextFault × Tables
-pick s t a b c = cond a (declined (fault.Short (length s.points)) t) (cond b (declined (fault.Short (length s.faces)) t) (cond c (declined (fault.Short (corner_count s.faces)) t) (Ok (sizes s), holding s t)))
+-- the table that is too short, by the three tests
+abbrev tests : Sizes → Bool → Bool → Bool → Result (Unit {0}) TextFault
+tests n a b c = cond a (Err (fault.Short n.points)) (cond b (Err (fault.Short n.faces)) (cond c (Err (fault.Short n.corners)) (Ok tt)))
 
-picked : (s : Sheet) (t : Tables) (n : Sizes) (a b c : Bool) → (pick s t a b c).0 ≡ Ok n → (n ≡ sizes s) × ((pick s t a b c).1 ≡ holding s t)
-picked s t n true b c e = absurd (never _ _ e)
-picked s t n false true c e = absurd (never _ _ e)
-picked s t n false false true e = absurd (never _ _ e)
-picked s t n false false false e = (sym (ok_is _ _ e), refl)
+pub has_room : (t : Tables) (n : Sizes) → Ok tt ≡ room_in t n → (n.points ≤ length t.points) × (n.faces ≤ length t.lengths) × (n.corners ≤ length t.corners)
+has_room t n h = go (ltb (length t.points) n.points) (ltb (length t.lengths) n.faces) (ltb (length t.corners) n.corners) refl refl refl (sym h)
+  where
+    go : (a b c : Bool) → ltb (length t.points) n.points ≡ a → ltb (length t.lengths) n.faces ≡ b → ltb (length t.corners) n.corners ≡ c → tests n a b c ≡ Ok tt → (n.points ≤ length t.points) × (n.faces ≤ length t.lengths) × (n.corners ≤ length t.corners)
+    go true b c p q r h = absurd (never _ _ h)
+    go false true c p q r h = absurd (never _ _ h)
+    go false false true p q r h = absurd (never _ _ h)
+    go false false false p q r h = (ltb-false _ _ p, ltb-false _ _ q, ltb-false _ _ r)
+
+room_for : (t : Tables) (n : Sizes) → n.points ≤ length t.points → n.faces ≤ length t.lengths → n.corners ≤ length t.corners → room_in t n ≡ Ok tt
+room_for t n p f c =
+    let a = le-ltb (length t.points) n.points p in
+    let b = le-ltb (length t.lengths) n.faces f in
+    let d = le-ltb (length t.corners) n.corners c in
+    λ i. tests n (a i) (b i) (d i)
+
+short : (n : Sizes) (y : TextFault) (a b c : Bool) → tests n a b c ≡ Err y → (m : ℕ) × (y ≡ fault.Short m)
+short n y true b c e = (n.points, sym (err_is _ _ e))
+short n y false true c e = (n.faces, sym (err_is _ _ e))
+short n y false false true e = (n.corners, sym (err_is _ _ e))
+short n y false false false e = absurd (never _ _ (sym e))
+
+-- in tables with room for it, a sheet is stored
+pub stored_room : (s : Sheet) (t : Tables) → length s.points ≤ length t.points → length s.faces ≤ length t.lengths → corner_count s.faces ≤ length t.corners → stored s t ≡ (Ok (sizes s), holding s t)
+stored_room s t p f c = ap (λ x. if_room x s t) (room_for t (sizes s) p f c)
 
 pub stored_ok : (s : Sheet) (t : Tables) (n : Sizes) → (stored s t).0 ≡ Ok n → (n ≡ sizes s) × ((stored s t).1 ≡ holding s t)
-stored_ok s t n e = picked s t n (ltb (length t.points) (length s.points)) (ltb (length t.lengths) (length s.faces)) (ltb (length t.corners) (corner_count s.faces)) e
+stored_ok s t n e = go (room_in t (sizes s)) e
+  where
+    go : (x : Result (Unit {0}) TextFault) → (if_room x s t).0 ≡ Ok n → (n ≡ sizes s) × ((if_room x s t).1 ≡ holding s t)
+    go (Ok u) e = (sym (ok_is _ _ e), refl)
+    go (Err y) e = absurd (never _ _ e)
 
 -- what declines, by the three tests, is a table
-short : (s : Sheet) (t : Tables) (y : TextFault) (a b c : Bool) → (pick s t a b c).0 ≡ Err y → (n : ℕ) × (y ≡ fault.Short n)
-short s t y true b c e = (length s.points, sym (err_is _ _ e))
-short s t y false true c e = (length s.faces, sym (err_is _ _ e))
-short s t y false false true e = (corner_count s.faces, sym (err_is _ _ e))
-short s t y false false false e = absurd (never _ _ (sym e))
-
 pub stored_short : (s : Sheet) (t : Tables) (y : TextFault) → (stored s t).0 ≡ Err y → (n : ℕ) × (y ≡ fault.Short n)
-stored_short s t y e = short s t y (ltb (length t.points) (length s.points)) (ltb (length t.lengths) (length s.faces)) (ltb (length t.corners) (corner_count s.faces)) e
+stored_short s t y e = go (room_in t (sizes s)) refl e
+  where
+    go : (x : Result (Unit {0}) TextFault) → room_in t (sizes s) ≡ x → (if_room x s t).0 ≡ Err y → (n : ℕ) × (y ≡ fault.Short n)
+    go (Ok u) p e = absurd (never _ _ (sym e))
+    go (Err z) p e = short (sizes s) y (ltb (length t.points) (length s.points)) (ltb (length t.lengths) (length s.faces)) (ltb (length t.corners) (corner_count s.faces)) (p ∙ ap (λ w. Err w) (err_is _ _ e))
 
 -- from any place on a sheet can be completed
 pub fillable_sheet : Fillable sheet
@@ -134,15 +156,6 @@ read_err text at t r e h j = told text at t r t (ap (λ x. (x, t)) h ∙ sym (ap
 pub read_as : (text : List ℕ) (at : ℕ) (t : Tables) (r s : Result Sizes TextFault) (u : Tables) → r ≡ s → ReadsSheet text at t s u → ReadsSheet text at t r u
 read_as text at t r s u e o = subst (λ x. ReadsSheet text at t x u) (sym e) o
 
-pub has_room : (t : Tables) (n : Sizes) → Ok tt ≡ room_in t n → (n.points ≤ length t.points) × (n.faces ≤ length t.lengths) × (n.corners ≤ length t.corners)
-has_room t n h = go (ltb (length t.points) n.points) (ltb (length t.lengths) n.faces) (ltb (length t.corners) n.corners) refl refl refl (sym h)
-  where
-    go : (a b c : Bool) → ltb (length t.points) n.points ≡ a → ltb (length t.lengths) n.faces ≡ b → ltb (length t.corners) n.corners ≡ c → ◌≡◌ {A = Result (Unit {0}) TextFault} (cond a (Err (fault.Short n.points)) (cond b (Err (fault.Short n.faces)) (cond c (Err (fault.Short n.corners)) (Ok tt)))) (Ok tt) → (n.points ≤ length t.points) × (n.faces ≤ length t.lengths) × (n.corners ≤ length t.corners)
-    go true b c p q r h = absurd (never _ _ h)
-    go false true c p q r h = absurd (never _ _ h)
-    go false false true p q r h = absurd (never _ _ h)
-    go false false false p q r h = (ltb-false _ _ p, ltb-false _ _ q, ltb-false _ _ r)
-
 module _ (text : List ℕ) (at : ℕ) (t : Tables) (l : Layout) (d : Laid text at l) where
   abbrev of : Sheet
   of = record { points = d.ps; faces = d.fs }
@@ -150,45 +163,35 @@ module _ (text : List ℕ) (at : ℕ) (t : Tables) (l : Layout) (d : Laid text a
   to_stored : read text at t ≡ stored of t
   to_stored = ap (λ x. settled x t) d.whole
 
-  points_is : l.sizes.points ≡ length d.ps
-  points_is = ap (λ z. z.points) d.counts
-
   faces_is : l.sizes.faces ≡ length d.fs
   faces_is = ap (λ z. z.faces) d.counts
 
   corners_is : l.sizes.corners ≡ corner_count d.fs
   corners_is = ap (λ z. z.corners) d.counts
 
-  by_tests : (a b c : Bool) → ltb (length t.points) (length d.ps) ≡ a → ltb (length t.lengths) (length d.fs) ≡ b → ltb (length t.corners) (corner_count d.fs) ≡ c → read text at t ≡ pick of t a b c
-  by_tests a b c p q r = to_stored ∙ (λ i. pick of t (p i) (q i) (r i))
+  by_room : (x : Result (Unit {0}) TextFault) → room_in t l.sizes ≡ x → read text at t ≡ if_room x of t
+  by_room x p = to_stored ∙ ap (λ r. if_room r of t) (sym (ap (room_in t) d.counts) ∙ p)
+
+  pub read_short : (e : TextFault) → Err e ≡ room_in t l.sizes → ReadsSheet text at t (Err e) t
+  read_short e h = told text at t _ t (sym (by_room (Err e) (sym h)))
 
   pub read_short_points : length t.points < l.sizes.points → ReadsSheet text at t (Err (fault.Short l.sizes.points)) t
   read_short_points h =
-      told text at t _ t (ap (λ n. (Err (fault.Short n), t)) points_is
-      ∙ sym (by_tests true _ _ (lt-ltb (length t.points) (length d.ps) (omega (arith, points_is))) refl refl))
+      let a = lt-ltb (length t.points) l.sizes.points h in
+      read_short (fault.Short l.sizes.points) (sym (λ i. tests l.sizes (a i) (ltb (length t.lengths) l.sizes.faces) (ltb (length t.corners) l.sizes.corners)))
 
   pub read_short_lengths : l.sizes.points ≤ length t.points → length t.lengths < l.sizes.faces → ReadsSheet text at t (Err (fault.Short l.sizes.faces)) t
   read_short_lengths g h =
-      told text at t _ t (ap (λ n. (Err (fault.Short n), t)) faces_is
-      ∙ sym (by_tests false true _ (le-ltb (length t.points) (length d.ps) (omega (arith, points_is))) (lt-ltb (length t.lengths) (length d.fs) (omega (arith, faces_is))) refl))
+      let a = le-ltb (length t.points) l.sizes.points g in
+      let b = lt-ltb (length t.lengths) l.sizes.faces h in
+      read_short (fault.Short l.sizes.faces) (sym (λ i. tests l.sizes (a i) (b i) (ltb (length t.corners) l.sizes.corners)))
 
   pub read_short_corners : l.sizes.points ≤ length t.points → l.sizes.faces ≤ length t.lengths → length t.corners < l.sizes.corners → ReadsSheet text at t (Err (fault.Short l.sizes.corners)) t
   read_short_corners g h k =
-      told text at t _ t (ap (λ n. (Err (fault.Short n), t)) corners_is
-      ∙ sym (by_tests false false true (le-ltb (length t.points) (length d.ps) (omega (arith, points_is))) (le-ltb (length t.lengths) (length d.fs) (omega (arith, faces_is)))
-      (lt-ltb (length t.corners) (corner_count d.fs) (omega (arith, corners_is)))))
-
-  pub read_short : (e : TextFault) → Err e ≡ room_in t l.sizes → ReadsSheet text at t (Err e) t
-  read_short e h = go (ltb (length t.points) l.sizes.points) (ltb (length t.lengths) l.sizes.faces) (ltb (length t.corners) l.sizes.corners) refl refl refl (sym h)
-    where
-      moved : {y : TextFault} → ◌≡◌ {A = Result (Unit {0}) TextFault} (Err y) (Err e) → ReadsSheet text at t (Err y) t → ReadsSheet text at t (Err e) t
-      moved q o = subst (λ x. ReadsSheet text at t (Err x) t) (err_is _ _ q) o
-
-      go : (a b c : Bool) → ltb (length t.points) l.sizes.points ≡ a → ltb (length t.lengths) l.sizes.faces ≡ b → ltb (length t.corners) l.sizes.corners ≡ c → ◌≡◌ {A = Result (Unit {0}) TextFault} (cond a (Err (fault.Short l.sizes.points)) (cond b (Err (fault.Short l.sizes.faces)) (cond c (Err (fault.Short l.sizes.corners)) (Ok tt)))) (Err e) → ReadsSheet text at t (Err e) t
-      go true b c p q r h = moved h (read_short_points (ltb-true _ _ p))
-      go false true c p q r h = moved h (read_short_lengths (ltb-false _ _ p) (ltb-true _ _ q))
-      go false false true p q r h = moved h (read_short_corners (ltb-false _ _ p) (ltb-false _ _ q) (ltb-true _ _ r))
-      go false false false p q r h = absurd (never _ _ (sym h))
+      let a = le-ltb (length t.points) l.sizes.points g in
+      let b = le-ltb (length t.lengths) l.sizes.faces h in
+      let c = lt-ltb (length t.corners) l.sizes.corners k in
+      read_short (fault.Short l.sizes.corners) (sym (λ i. tests l.sizes (a i) (b i) (c i)))
 
   -- in tables with room for it, the sheet is what the places for its points and lengths take
   module _ (g : l.sizes.points ≤ length t.points) (h : l.sizes.faces ≤ length t.lengths) (k : l.sizes.corners ≤ length t.corners) where
@@ -206,9 +209,9 @@ module _ (text : List ℕ) (at : ℕ) (t : Tables) (l : Layout) (d : Laid text a
     read_ok ps r ls cs a fs =
         let b = fs d.fs d.after_faces faces_there in
         let f = faces_is ∙ sym (length-map d.fs length) in
-        told text at t _ _ ((λ i. (Ok (d.counts i), tables (a i ++ drop (points_is i) t.points) (b.1 i ++ drop (f i) t.lengths) (b.2 i)))
-        ∙ sym (by_tests false false false (le-ltb (length t.points) (length d.ps) (omega (arith, points_is))) (le-ltb (length t.lengths) (length d.fs) (omega (arith, faces_is)))
-        (le-ltb (length t.corners) (corner_count d.fs) (omega (arith, corners_is)))))
+        let p = ap (λ z. z.points) d.counts in
+        told text at t _ _ ((λ i. (Ok (d.counts i), tables (a i ++ drop (p i) t.points) (b.1 i ++ drop (f i) t.lengths) (b.2 i)))
+        ∙ sym (by_room (Ok tt) (room_for t l.sizes g h k)))
 
 -- in tables of the sheet's sizes, the answer is that of judging
 pub roomy : (text : List ℕ) (at : ℕ) (t : Tables) (r : Result Sizes TextFault) (u : Tables) → ReadsSheet text at t r u → (n : Sizes) → Ok n ≡ sized (judge sheet text at) → n.points ≤ length t.points → n.faces ≤ length t.lengths → n.corners ≤ length t.corners → r ≡ sized (judge sheet text at)
@@ -216,9 +219,4 @@ roomy text at t r u o n h p f c = ap (λ x. x.0) o.outcome ∙ go (judge sheet t
   where
     go : (x : Result (Sheet × ℕ) TextFault) → Ok n ≡ sized x → (settled x t).0 ≡ sized x
     go (Err e) h = absurd (never _ _ (sym h))
-    go (Ok s) h =
-        let e = ok_is _ _ h in
-        let a = le-ltb (length t.points) (length s.0.points) (omega (arith, p, ap (λ z. z.points) e)) in
-        let b = le-ltb (length t.lengths) (length s.0.faces) (omega (arith, f, ap (λ z. z.faces) e)) in
-        let d = le-ltb (length t.corners) (corner_count s.0.faces) (omega (arith, c, ap (λ z. z.corners) e)) in
-        λ i. (pick s.0 t (a i) (b i) (d i)).0
+    go (Ok s) h = ap (λ x. (if_room x s.0 t).0) (ap (room_in t) (sym (ok_is _ _ h)) ∙ room_for t n p f c)

@@ -49,13 +49,13 @@ room_in t n =
 abbrev pub declined : TextFault → Tables → Result Sizes TextFault × Tables
 declined e t = (Err e, t)
 
+abbrev pub if_room : Result (Unit {0}) TextFault → Sheet → Tables → Result Sizes TextFault × Tables
+if_room (Ok u) s t = (Ok (sizes s), holding s t)
+if_room (Err e) s t = declined e t
+
 -- the first table that is too short declines
 abbrev pub stored : Sheet → Tables → Result Sizes TextFault × Tables
-stored s t =
-    cond (nat_lt (length t.points) (length s.points)) (declined (fault.Short (length s.points)) t)
-    (cond (nat_lt (length t.lengths) (length s.faces)) (declined (fault.Short (length s.faces)) t)
-    (cond (nat_lt (length t.corners) (corner_count s.faces)) (declined (fault.Short (corner_count s.faces)) t)
-    (Ok (sizes s), holding s t)))
+stored s t = if_room (room_in t (sizes s)) s t
 
 abbrev pub settled : Result (Sheet × ℕ) TextFault → Tables → Result Sizes TextFault × Tables
 settled (Ok r) t = stored r.0 t
